@@ -1,0 +1,5 @@
+pub mod Lending
+pub mod Faults
+pub mod Keywords
+pub mod NameTable
+pub mod Names

@@ -1,0 +1,12 @@
+pub mod Headline
+pub mod Words
+pub mod PlainNames
+pub mod Entry
+pub mod FirstNets
+pub mod FirstBlock
+pub mod Netlists
+pub mod Texts
+pub mod Printing
+pub mod Answers
+pub mod Causes
+pub mod Status

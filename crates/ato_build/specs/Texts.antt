@@ -1,0 +1,69 @@
+-- The printed texts, as functions of what is printed and of the bytes that it lies in.
+use Rattle.std.specs.Prelude.{ℕ, ◌+◌, ◌≤◌, Bool, ◌||◌, not, ◌==◌, nat_lt, nat_le, List, ◌++◌, length, take, reverse, take_while, count_by, codes, string_bytes}
+use Rattle.std.specs.Fmt.{decimal}
+use Rattle.ato_base.specs.Faults.{kind_number, kind_name}
+use Rattle.ato_base.specs.declared.faults.Fault.{Fault}
+use Rattle.ato_base.specs.declared.nets.NetList.{NetList}
+use Rattle.ato_base.specs.declared.places.Place.{Place}
+use Rattle.ato_base.specs.declared.places.Place.TheVariants as places
+use Rattle.ato_build.specs.declared.words.Build.{Build}
+use Rattle.ato_build.specs.declared.answer.Said.{Said}
+use Rattle.ato_build.specs.declared.answer.Said.TheVariants as said
+
+-- the line of a byte, from 1: the line ends before it are counted
+abbrev pub line_at : List ℕ → ℕ → ℕ
+line_at source at = count_by (λ b. b == 10) (take at source) + 1
+
+-- A byte that begins a character in UTF-8.
+abbrev pub begins_char : ℕ → Bool
+begins_char b = nat_lt b 128 || nat_le 192 b
+
+-- the column of a byte, from 1: the characters between it and the line end before it are counted
+abbrev pub column_at : List ℕ → ℕ → ℕ
+column_at source at = count_by begins_char (take_while (λ b. not (b == 10)) (reverse (take at source))) + 1
+
+-- two numbers behind a file's name
+unfoldable pub place_in_text : List ℕ → ℕ → ℕ → List ℕ
+place_in_text file row column = file ++ (codes ":" ++ (decimal row ++ (codes ":" ++ decimal column)))
+
+unfoldable pub word_text : ℕ → List ℕ
+word_text word = codes "word " ++ decimal word
+
+-- a place: in the source, in the catalogue, or at a word
+abbrev pub place_text : Build → List ℕ → Place → List ℕ
+place_text build source (places.Source span) = place_in_text build.file (line_at source span.start) (column_at source span.start)
+place_text build source (places.Cell row column) = place_in_text build.catalogue row column
+place_text build source (places.Word word) = word_text word
+
+-- the line of a fault. No fault has a second place or a path yet.
+unfoldable pub fault_text : Build → List ℕ → Fault → List ℕ
+fault_text build source f =
+    codes "fault F" ++ (decimal (kind_number f.kind) ++ (codes " " ++ (kind_name f.kind ++ (codes " " ++ (place_text build source f.at ++ codes "\n")))))
+
+-- what is printed once a net list is put
+unfoldable pub summary_text : NetList → List ℕ
+summary_text list = codes "result built\nnets " ++ (decimal (length list.nets) ++ (codes "\nparts " ++ (decimal (length list.comps) ++ codes "\n")))
+
+unfoldable pub read_fault_text : List ℕ → List ℕ
+read_fault_text file = codes "read fault " ++ (file ++ codes "\n")
+
+abbrev pub write_fault_text : List ℕ → List ℕ
+write_fault_text file = codes "write fault " ++ (file ++ codes "\n")
+
+abbrev pub memory_text : List ℕ
+memory_text = codes "out of memory\n"
+
+abbrev pub usage_text : List ℕ
+usage_text = codes "usage: ato build ENTRY CATALOGUE [--steps N] [--out NAME]\n       ato check ENTRY CATALOGUE CERT\n"
+
+-- what is printed
+abbrev pub said_text : Said → List ℕ
+said_text (said.Text text) = string_bytes text
+said_text said.OutOfMemory = memory_text
+said_text (said.WriteFault file) = write_fault_text (string_bytes file)
+
+-- The place lies in the source.
+abbrev pub LiesWithin : List ℕ → Place → Type 0
+LiesWithin source (places.Source span) = span.start ≤ length source
+LiesWithin source (places.Cell row column) = Unit {0}
+LiesWithin source (places.Word word) = Unit {0}

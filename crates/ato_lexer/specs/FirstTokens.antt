@@ -1,0 +1,117 @@
+-- The tokens of a file of the first form, with their places. It goes once whole files are read.
+use Rattle.std.specs.Prelude.{◌≡◌, ℕ, ◌+◌, ◌*◌, ◌-◌, true, nat_le, if◌then◌else◌, List, [], ◌∷◌, ◌++◌, length, fold, Option, Some, None, All}
+use Rattle.std.specs.List.{list_any}
+use Rattle.std.specs.Str.{bytes_eq}
+use Rattle.ato_base.specs.NameTable.{number_of}
+use Rattle.ato_base.specs.declared.places.FileId.{FileId}
+use Rattle.ato_base.specs.declared.places.Place.TheVariants as places
+use Rattle.ato_base.specs.declared.tokens.Token.{Token}
+use Rattle.ato_base.specs.declared.tokens.TokenKind.{TokenKind}
+use Rattle.ato_base.specs.declared.tokens.TokenKind.TheVariants as kinds
+use Rattle.ato_base.specs.declared.keywords.Keyword.TheVariants as words
+use Rattle.ato_base.specs.declared.keywords.Mark.TheVariants as marks
+use Rattle.ato_base.specs.declared.faults.Fault.{Fault}
+use Rattle.ato_base.specs.declared.faults.FaultKind.TheVariants as faults
+use Rattle.ato_base.specs.declared.faults.Refusal.{Refusal}
+use Rattle.ato_base.specs.declared.faults.Refusal.TheVariants as refusals
+use Rattle.ato_lexer.specs.FirstForm.{is_ascii_name, line_text, lined, block_text, IsFile, IsBad}
+use Rattle.ato_lexer.specs.declared.first_form.Line.{Line}
+use Rattle.ato_lexer.specs.declared.first_form.Line.TheVariants.{Pass, Signal, Pin}
+use Rattle.ato_lexer.specs.declared.first_form.Block.{Block}
+
+-- a token from one byte of the file up to another
+abbrev pub token : FileId → TokenKind → ℕ → ℕ → Token
+token file kind start end = record { kind = kind; at = record { file = file; start = start; end = end } }
+
+-- the value of digits
+abbrev pub digits_value : List ℕ → ℕ
+digits_value digits = fold (λ value digit. value * 10 + (digit - 48)) 0 digits
+
+-- the value of digits, where it is at most 65,535
+abbrev pub small_value : List ℕ → Option ℕ
+small_value digits = if nat_le (digits_value digits) 65535 then Some (digits_value digits) else None
+
+-- the token of a name: its number in the table
+abbrev pub name_token : List (List ℕ) → FileId → ℕ → List ℕ → Token
+name_token names file at name = token file (kinds.Name (record { 0 = number_of names name })) at (at + length name)
+
+-- the token of digits
+abbrev pub number_token : FileId → ℕ → List ℕ → Token
+number_token file at digits =
+    token file (kinds.Number true (small_value digits) (record { file = file; start = at; end = at + length digits })) at (at + length digits)
+
+-- the token of a pin's label
+abbrev pub label_token : List (List ℕ) → FileId → ℕ → List ℕ → Token
+label_token names file at label = if is_ascii_name label then name_token names file at label else number_token file at label
+
+-- the tokens of a line that begins at a byte
+abbrev pub line_tokens : List (List ℕ) → FileId → ℕ → Line → List Token
+line_tokens names file at Pass =
+    token file (kinds.Keyword words.Pass) (at + 4) (at + 8)
+    ∷ token file kinds.Newline (at + 8) (at + 8) ∷ []
+line_tokens names file at (Signal name) =
+    token file (kinds.Keyword words.Signal) (at + 4) (at + 10)
+    ∷ name_token names file (at + 11) name
+    ∷ token file kinds.Newline (at + 11 + length name) (at + 11 + length name) ∷ []
+line_tokens names file at (Pin label) =
+    token file (kinds.Keyword words.Pin) (at + 4) (at + 7)
+    ∷ label_token names file (at + 8) label
+    ∷ token file kinds.Newline (at + 8 + length label) (at + 8 + length label) ∷ []
+
+-- the tokens of lines, of which the first begins at a byte
+abbrev pub lines_tokens : List (List ℕ) → FileId → ℕ → List Line → List Token
+lines_tokens names file at [] = []
+lines_tokens names file at (line ∷ lines) = line_tokens names file at line ++ lines_tokens names file (at + length (lined (line_text line))) lines
+
+-- the tokens of the first line, and the indentation of the next, which begins at byte 12 + length name
+abbrev pub head_tokens : List (List ℕ) → FileId → List ℕ → List Token
+head_tokens names file name =
+    token file (kinds.Keyword words.Component) 0 9
+    ∷ name_token names file 10 name
+    ∷ token file (kinds.Mark marks.Colon) (10 + length name) (11 + length name)
+    ∷ token file kinds.Newline (11 + length name) (11 + length name)
+    ∷ token file kinds.Indent (16 + length name) (16 + length name) ∷ []
+
+-- the tokens after the last line of a file of so many bytes
+abbrev pub last_tokens : FileId → ℕ → List Token
+last_tokens file size = token file kinds.Dedent size size ∷ token file kinds.End size size ∷ []
+
+-- the tokens of a file
+abbrev pub file_tokens : List (List ℕ) → FileId → Option Block → List Token
+file_tokens names file None = token file kinds.End 0 0 ∷ []
+file_tokens names file (Some block) =
+    head_tokens names file block.name ++ (lines_tokens names file (12 + length block.name) block.lines ++ last_tokens file (length (block_text block)))
+
+-- the names that a line mentions
+abbrev pub line_names : Line → List (List ℕ)
+line_names Pass = []
+line_names (Signal name) = name ∷ []
+line_names (Pin label) = if is_ascii_name label then label ∷ [] else []
+
+-- The table holds the text.
+abbrev pub Holds : List (List ℕ) → List ℕ → Type 0
+Holds names text = list_any (bytes_eq text) names ≡ true
+
+-- The table holds every name of the file.
+abbrev pub HoldsNames : List (List ℕ) → Option Block → Type 0
+HoldsNames names None = Unit {0}
+HoldsNames names (Some block) = Holds names block.name × All (λ line. All (Holds names) (line_names line)) block.lines
+
+-- The tokens are those of the file that the bytes are, and the table holds its names.
+pub record AreTokens (bytes : List ℕ) (file : FileId) (names : List (List ℕ)) (tokens : List Token) (block : Option Block) : Type 0 where
+  pub is : IsFile bytes block
+  pub tokens_are : tokens ≡ file_tokens names file block
+  pub held : HoldsNames names block
+
+-- the fault of a line that is not of the form, at its first byte
+abbrev pub syntax_fault : FileId → ℕ → Fault
+syntax_fault file at = record { kind = faults.Syntax; at = places.Source (record { file = file; start = at; end = at }); other = None; path = [] }
+
+-- Why there are no tokens: want of memory, or the first line that is not of the form.
+abbrev pub IsRefused : List ℕ → FileId → Refusal → Type 0
+IsRefused bytes file refusals.NoMemory = Unit {0}
+IsRefused bytes file (refusals.Fault f) = (at : ℕ) × IsBad bytes at × (f ≡ syntax_fault file at)
+
+-- The table keeps the place of each name, and may hold more.
+abbrev pub Extends : List (List ℕ) → List (List ℕ) → Type 0
+Extends old new = (more : List (List ℕ)) × (new ≡ old ++ more)

@@ -1,0 +1,11 @@
+pub mod Causes
+pub mod Files
+pub mod Numbered
+pub mod Shelf
+pub mod Tray
+pub mod Sink
+pub mod MemoryShelf
+pub mod MemoryTray
+pub mod MemorySink
+pub mod SureFiles
+pub mod Folder
