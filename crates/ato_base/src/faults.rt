@@ -1,0 +1,144 @@
+ghost use Rattle.std.specs.Prelude.{◌≡◌};
+ghost use Rattle.ato_base.specs.Faults.{kind_number, kind_name};
+
+use crate::{List, Name, NoMemory, Place};
+
+/// What kind of fault stands in the input. The kinds are numbered from 1 in this order.
+#[derive(Clone, Copy, Debug, PartialEq, Eq)]
+pub enum FaultKind {
+    /// The source is not UTF-8.
+    BadText,
+    /// No token begins here.
+    BadChar,
+    /// A string has no end.
+    OpenString,
+    /// A line's depth is no open level.
+    BadIndent,
+    /// A number leaves the range of fractions.
+    WideNumber,
+    /// No file begins with the tokens up to this one.
+    Syntax,
+    /// Too many parentheses stand inside each other.
+    TooDeep,
+    /// A file is not there, or its name is not plain.
+    FileMissing,
+    /// A file is longer than its limit.
+    FileTooLong,
+    /// The project has too many files.
+    TooManyFiles,
+    /// No such block or import is known.
+    NameUnknown,
+    /// A name is declared twice.
+    NameTwice,
+    /// The ancestors of a block never end.
+    SuperLoop,
+    /// An instance would contain itself.
+    NestLoop,
+    /// A name or pin label is no member where it stands.
+    NoSuchMember,
+    /// A replacement is no descendant of the type so far.
+    NotSpecial,
+    /// The tree of instances is too large.
+    TreeTooLarge,
+    /// Something stands where its kind may not.
+    WrongKind,
+    /// Two ends can not be connected.
+    CannotConnect,
+    /// The catalogue's header is missing or not of the form.
+    NoHeader,
+    /// A heading stands twice.
+    ColumnTwice,
+    /// A row has another number of cells than the header, or is not UTF-8.
+    BadRow,
+    /// A cell is not what its column asks for.
+    BadCell,
+    /// A part is named by an earlier row.
+    PartTwice,
+    /// The catalogue has too many rows.
+    TooManyRows,
+    /// Units are unknown or do not fit together.
+    UnitFault,
+    /// A quantity that is used has no value.
+    Unvalued,
+    /// A definition depends on itself.
+    DefinitionLoop,
+    /// The low end of a range is above its high end.
+    EmptyRange,
+    /// The problem is beyond a limit.
+    ProblemTooLarge,
+}
+
+impl FaultKind {
+    /// The number that is printed behind an `F`.
+    pub fn number(&self) -> u8
+        ensures { result ≡ kind_number self.now }
+    {
+        *self as u8 + 1
+    }
+
+    /// The name that is printed behind the number.
+    pub fn name(&self) -> &'static str
+        ensures { result.now ≡ kind_name self.now }
+    {
+        match self {
+            FaultKind::BadText => "BadText",
+            FaultKind::BadChar => "BadChar",
+            FaultKind::OpenString => "OpenString",
+            FaultKind::BadIndent => "BadIndent",
+            FaultKind::WideNumber => "WideNumber",
+            FaultKind::Syntax => "Syntax",
+            FaultKind::TooDeep => "TooDeep",
+            FaultKind::FileMissing => "FileMissing",
+            FaultKind::FileTooLong => "FileTooLong",
+            FaultKind::TooManyFiles => "TooManyFiles",
+            FaultKind::NameUnknown => "NameUnknown",
+            FaultKind::NameTwice => "NameTwice",
+            FaultKind::SuperLoop => "SuperLoop",
+            FaultKind::NestLoop => "NestLoop",
+            FaultKind::NoSuchMember => "NoSuchMember",
+            FaultKind::NotSpecial => "NotSpecial",
+            FaultKind::TreeTooLarge => "TreeTooLarge",
+            FaultKind::WrongKind => "WrongKind",
+            FaultKind::CannotConnect => "CannotConnect",
+            FaultKind::NoHeader => "NoHeader",
+            FaultKind::ColumnTwice => "ColumnTwice",
+            FaultKind::BadRow => "BadRow",
+            FaultKind::BadCell => "BadCell",
+            FaultKind::PartTwice => "PartTwice",
+            FaultKind::TooManyRows => "TooManyRows",
+            FaultKind::UnitFault => "UnitFault",
+            FaultKind::Unvalued => "Unvalued",
+            FaultKind::DefinitionLoop => "DefinitionLoop",
+            FaultKind::EmptyRange => "EmptyRange",
+            FaultKind::ProblemTooLarge => "ProblemTooLarge",
+        }
+    }
+}
+
+/// A fault of the input: its kind, its place, a second place where there is one, and the names of
+/// the instance in which it stands.
+#[derive(Debug, Drop)]
+pub struct Fault {
+    pub kind: FaultKind,
+    pub at: Place,
+    pub other: Option<Place>,
+    pub path: List<Name>,
+}
+
+/// Why a call has no answer: a fault of the input, or want of memory.
+#[derive(Debug, Drop)]
+pub enum Refusal {
+    Fault(Fault),
+    NoMemory,
+}
+
+impl From<NoMemory> for Refusal {
+    ghost use Rattle.std.specs.Prelude.{◌≡◌};
+    ghost use Rattle.ato_base.specs.declared.faults.Refusal.TheVariants as refusals;
+
+    ghost from_gives = { λ _ e. e ≡ refusals.NoMemory };
+
+    fn from(_error: NoMemory) -> Refusal {
+        Refusal::NoMemory
+    }
+}
