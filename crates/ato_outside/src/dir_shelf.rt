@@ -1,0 +1,150 @@
+ghost use Rattle.std.specs.Prelude.{◌≡◌, ◌≤◌, length, IfSome, IsErrOf};
+ghost use Rattle.ato_outside.specs.Causes.{Counts};
+ghost use Rattle.ato_outside.specs.Shelf.{IsAnswer, Fits};
+
+use crate::{Got, Shelf, ShelfError};
+use std::fs;
+use std::io::{ErrorKind, Read};
+use std::marker::Model;
+use std::path::Path;
+use std::rt::Files;
+
+/// A real folder, whose files it tells nothing of.
+///
+/// Contracts see it as its path and its counts of faults and misses.
+#[derive(Drop)]
+pub struct DirShelf<'a, R: Files> {
+    rt: &'a R,
+    folder: &'a str,
+    faults: u64,
+    misses: u64,
+}
+
+impl<'a, R: Files> Model for DirShelf<'a, R> {
+    ghost use Rattle.ato_outside.specs.Folder.{FolderShelf, folder_shelf_code};
+
+    ghost Value = { FolderShelf };
+
+    ghost coded = { folder_shelf_code };
+
+    ghost view = { λ it. record { folder = it.folder.now; faults = it.faults; misses = it.misses } };
+}
+
+impl<'a, R: Files> DirShelf<'a, R> {
+    /// The shelf of a folder. It takes no memory and reads nothing.
+    ///
+    /// A call answers Missing only where the system says that there is no such file. Every other
+    /// error is a fault.
+    pub fn new(rt: &'a R, folder: &'a str) -> DirShelf<'a, R>
+        ensures { result ≡ record { folder = folder.now; faults = 0; misses = 0 } }
+    {
+        DirShelf {
+            rt,
+            folder,
+            faults: 0,
+            misses: 0,
+        }
+    }
+
+    /// How many calls failed.
+    pub fn faults(&self) -> u64
+        ensures { result ≡ self.now.faults }
+    {
+        self.faults
+    }
+
+    /// How many calls found no file of their name.
+    pub fn misses(&self) -> u64
+        ensures { result ≡ self.now.misses }
+    {
+        self.misses
+    }
+}
+
+/// Reads what a file has left, and stops as soon as that is longer than the limit. A read that was
+/// interrupted is tried again, and every other error is a failure.
+pub(crate) fn read_all<F: Read>(
+    file: &mut F,
+    limit: usize,
+    into: &mut Vec<u8>,
+) -> Result<Got, ShelfError>
+    ensures told { IfSome (F.remaining file.old)
+        (λ rest. IsAnswer (Some rest) limit result into.new.items) }
+    ensures room { length into.new.items ≤ limit }
+{
+    into.clear();
+    let mut piece = [0u8; 4096];
+    for _ in 0..u64::MAX {
+        match file.read(&mut piece) {
+            Ok(0) => return Ok(Got::Whole),
+            Ok(count) => {
+                if count > limit - into.len() {
+                    return Ok(Got::TooLong);
+                }
+                if into.extend_from_slice(&piece[..count]).is_err() {
+                    return Err(ShelfError::NoMemory);
+                }
+            }
+            Err(error) => {
+                if error.kind() != ErrorKind::Interrupted {
+                    return Err(ShelfError::Failed);
+                }
+            }
+        }
+    }
+    Err(ShelfError::Failed)
+}
+
+/// Opens a file of the folder and reads it.
+fn read_file<R: Files>(
+    rt: &R,
+    folder: &str,
+    name: &str,
+    limit: usize,
+    into: &mut Vec<u8>,
+) -> Result<Got, ShelfError>
+    ensures { result ≡ Ok Got.Whole → length into.new.items ≤ limit }
+{
+    let alloc = *into.allocator();
+    let Ok(path) = Path::new(folder).join(alloc, name) else {
+        return Err(ShelfError::NoMemory);
+    };
+    match fs::open(rt, path) {
+        Ok(mut file) => read_all(&mut file, limit, into),
+        Err(error) => {
+            if error.kind() == ErrorKind::NotFound {
+                Ok(Got::Missing)
+            } else {
+                Err(ShelfError::Failed)
+            }
+        }
+    }
+}
+
+impl<'a, R: Files> Shelf for DirShelf<'a, R> {
+    ghost use Rattle.std.specs.Prelude.{None};
+
+    ghost files = { λ _. None };
+
+    ghost faults = { λ s. s.faults };
+
+    ghost misses = { λ s. s.misses };
+
+    fn get(&mut self, name: &str, limit: usize, into: &mut Vec<u8>) -> Result<Got, ShelfError>
+        ensures room { Fits limit result into.new.items }
+        ensures faults { Counts self.old.faults self.new.faults (IsErrOf result ShelfError.Failed) }
+        ensures misses { Counts self.old.misses self.new.misses (result ≡ Ok Got.Missing) }
+        ensures folder { self.new.folder ≡ self.old.folder }
+    {
+        let answer = read_file(self.rt, self.folder, name, limit, into);
+        match answer {
+            Ok(Got::Whole) => return Ok(Got::Whole),
+            Ok(Got::Missing) => self.misses = self.misses.saturating_add(1),
+            Ok(Got::TooLong) => {}
+            Err(ShelfError::Failed) => self.faults = self.faults.saturating_add(1),
+            Err(ShelfError::NoMemory) => {}
+        }
+        into.clear();
+        answer
+    }
+}

@@ -1,0 +1,183 @@
+use crate::dir_shelf::read_all;
+use crate::dir_tray::write_all;
+use crate::{
+    DirShelf, DirTray, Got, MemShelf, MemSink, MemTray, OutSink, Shelf, ShelfError, Sink,
+    SinkFailed, SureShelf, SureTray, Tray, TrayError,
+};
+use ato_base::{List, NoMemory, Text};
+use std::alloc::Global;
+use std::io::{Error, ErrorKind, Read, Write};
+use std::test::Fail;
+use std::{env, fs, io};
+
+/// Files of these names and texts.
+fn files(alloc: Global, entries: &[(&str, &str)]) -> Result<List<(Text, List<u8>)>, NoMemory> {
+    let mut files = List::new(alloc);
+    for (name, text) in entries {
+        let mut bytes = Vec::new(alloc);
+        bytes.extend_from_slice(text.as_bytes())?;
+        files.push((Text::copy(alloc, name)?, List::from_vec(bytes)))?;
+    }
+    Ok(files)
+}
+
+#[test]
+fn a_shelf_fails_between_two_good_reads(rt: HostRuntime) -> Result<(), Fail> {
+    let alloc = rt.alloc();
+    let held = files(alloc, &[("a", "one"), ("b", ""), ("a", "other")])?;
+    let mut shelf = MemShelf::new(held, List::from_vec(vec![in alloc; 2]?));
+    let mut into = Vec::new(alloc);
+    assert_eq!(rt; shelf.get("a", 3, &mut into), Ok(Got::Whole));
+    assert_eq!(rt; into.as_slice(), b"one".as_slice());
+    assert_eq!(rt; shelf.get("a", 3, &mut into), Err(ShelfError::Failed));
+    assert_eq!(rt; into.len(), 0);
+    assert_eq!(rt; shelf.get("b", 0, &mut into), Ok(Got::Whole));
+    assert_eq!(rt; shelf.get("a", 2, &mut into), Ok(Got::TooLong));
+    assert_eq!(rt; shelf.get("c", 9, &mut into), Ok(Got::Missing));
+    assert_eq!(rt; (shelf.faults(), shelf.misses()), (1, 1));
+    Ok(())
+}
+
+#[test]
+fn a_sure_shelf_reads(rt: HostRuntime) -> Result<(), Fail> {
+    let alloc = rt.alloc();
+    let mut shelf = SureShelf::new(files(alloc, &[("a", "one"), ("a", "other")])?);
+    let mut into = Vec::new(alloc);
+    assert_eq!(rt; shelf.get("b", 9, &mut into), Ok(Got::Missing));
+    assert_eq!(rt; shelf.get("a", 3, &mut into), Ok(Got::Whole));
+    assert_eq!(rt; into.as_slice(), b"one".as_slice());
+    assert_eq!(rt; shelf.misses(), 1);
+    Ok(())
+}
+
+#[test]
+fn a_tray_fails_after_some_bytes(rt: HostRuntime) -> Result<(), Fail> {
+    let alloc = rt.alloc();
+    let fail = List::from_vec(vec![in alloc; (2, 3), (3, 99), (2, 0)]?);
+    let mut tray = MemTray::new(alloc, fail);
+    assert_eq!(rt; tray.put("a", b"first"), Ok(()));
+    assert_eq!(rt; tray.put("b", b"second"), Err(TrayError::Failed));
+    assert_eq!(rt; tray.put("c", b"third"), Err(TrayError::Failed));
+    assert_eq!(rt; tray.put("a", b"again"), Ok(()));
+    assert!(rt; tray.get("a") == Some(b"again".as_slice()));
+    assert!(rt; tray.get("b") == Some(b"sec".as_slice()));
+    assert!(rt; tray.get("c") == Some(b"third".as_slice()));
+    assert!(rt; tray.get("d").is_none());
+    assert_eq!(rt; tray.faults(), 2);
+    Ok(())
+}
+
+#[test]
+fn a_sure_tray_holds_what_was_put_last(rt: HostRuntime) {
+    let mut tray = SureTray::new(rt.alloc());
+    assert_eq!(rt; tray.put("a", b"first"), Ok(()));
+    assert_eq!(rt; tray.put("a", b"last"), Ok(()));
+    assert!(rt; tray.get("a") == Some(b"last".as_slice()));
+}
+
+#[test]
+fn a_sink_fails_by_number_and_by_room(rt: HostRuntime) -> Result<(), Fail> {
+    let alloc = rt.alloc();
+    let mut sink = MemSink::new(alloc, 6, List::from_vec(vec![in alloc; 2]?))?;
+    assert_eq!(rt; sink.write(b"one"), Ok(3));
+    assert_eq!(rt; sink.write(b"two"), Err(SinkFailed));
+    assert_eq!(rt; sink.write(b"four"), Err(SinkFailed));
+    assert_eq!(rt; sink.write(b"six"), Ok(3));
+    assert_eq!(rt; sink.write(b""), Ok(0));
+    assert_eq!(rt; sink.written(), b"onesix".as_slice());
+    assert_eq!(rt; sink.faults(), 2);
+    Ok(())
+}
+
+#[test]
+fn a_real_folder_gives_back_what_was_put(rt: HostRuntime) -> Result<(), Fail> {
+    let alloc = rt.alloc();
+    let folder = env::temp_dir(&rt)?;
+    let name = "ato_outside_real_folder.txt";
+    let mut tray = DirTray::new(alloc, &rt, folder.as_str());
+    assert_eq!(rt; tray.put(name, b"bytes"), Ok(()));
+    assert_eq!(rt;
+        tray.put("ato_outside_no_folder/file", b""),
+        Err(TrayError::Failed)
+    );
+    assert_eq!(rt; tray.faults(), 1);
+    let mut shelf = DirShelf::new(&rt, folder.as_str());
+    let mut into = Vec::new(alloc);
+    assert_eq!(rt; shelf.get(name, 5, &mut into), Ok(Got::Whole));
+    assert_eq!(rt; into.as_slice(), b"bytes".as_slice());
+    assert_eq!(rt; shelf.get(name, 4, &mut into), Ok(Got::TooLong));
+    assert_eq!(rt;
+        shelf.get("ato_outside_no_file", 4, &mut into),
+        Ok(Got::Missing)
+    );
+    assert_eq!(rt; shelf.get(".", 4, &mut into), Err(ShelfError::Failed));
+    assert_eq!(rt; (shelf.faults(), shelf.misses()), (1, 1));
+    fs::remove_file(&rt, folder.join(alloc, name)?)?;
+    Ok(())
+}
+
+#[test]
+fn standard_output_takes_a_line(rt: HostRuntime) {
+    let mut sink = OutSink::new(&rt);
+    assert_eq!(rt; sink.write(b"line\n"), Ok(5));
+    assert_eq!(rt; sink.faults(), 0);
+}
+
+/// A file that reads or writes a byte in each turn but the second, which is interrupted, and in
+/// which the turn of number `fails` fails. It ends after three bytes.
+#[derive(Drop)]
+struct Halting {
+    turn: u8,
+    fails: u8,
+}
+
+impl Halting {
+    /// The count of bytes of the next turn.
+    fn next(&mut self) -> io::Result<usize> {
+        self.turn = self.turn.saturating_add(1);
+        if self.turn == self.fails {
+            return Err(Error::from(ErrorKind::Other));
+        }
+        match self.turn {
+            2 => Err(Error::from(ErrorKind::Interrupted)),
+            1 | 3 | 4 => Ok(1),
+            _ => Ok(0),
+        }
+    }
+}
+
+impl Read for Halting {
+    fn read(&mut self, buf: &mut [u8]) -> io::Result<usize> {
+        let count = self.next()?.min(buf.len());
+        buf[..count].fill(b'x');
+        Ok(count)
+    }
+}
+
+impl Write for Halting {
+    fn write(&mut self, buf: &[u8]) -> io::Result<usize> {
+        Ok(self.next()?.min(buf.len()))
+    }
+
+    fn flush(&mut self) -> io::Result<()> {
+        Ok(())
+    }
+}
+
+#[test]
+fn a_read_may_be_interrupted_and_may_fail(rt: HostRuntime) {
+    let mut into = Vec::new(rt.alloc());
+    for (fails, answer) in [(0, Ok(Got::Whole)), (4, Err(ShelfError::Failed))] {
+        into.clear();
+        let mut file = Halting { turn: 0, fails };
+        assert_eq!(rt; read_all(&mut file, 3, &mut into), answer);
+    }
+}
+
+#[test]
+fn a_write_may_be_interrupted_and_may_fail(rt: HostRuntime) {
+    for (fails, bytes, answer) in [(0, "xxx", true), (4, "xxx", false), (0, "xxxx", false)] {
+        let mut file = Halting { turn: 0, fails };
+        assert_eq!(rt; write_all(&mut file, bytes.as_bytes()), answer);
+    }
+}
