@@ -1,0 +1,7 @@
+pub mod Bools
+pub mod FirstFormLemmas
+pub mod FirstFormLaws
+pub mod FormExamples
+pub mod Digits
+pub mod Numbers
+pub mod Reading

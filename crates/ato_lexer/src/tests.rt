@@ -1,0 +1,113 @@
+use crate::lex;
+use ato_base::{
+    FileId, Keyword, Mark, Name, NameTable, NoMemory, Place, Refusal, Span, Token, TokenKind,
+};
+use std::alloc::Global;
+use std::test::Fail;
+
+/// Where the first line of a short text begins that is not of the form, if there is one.
+fn bad_line(alloc: Global, text: &[u8]) -> Result<Option<u32>, NoMemory> {
+    if text.len() >= 1000 {
+        return Err(NoMemory);
+    }
+    let mut names = NameTable::new(alloc)?;
+    match lex(alloc, text, FileId(1), &mut names) {
+        Ok(_) => Ok(None),
+        Err(Refusal::NoMemory) => Err(NoMemory),
+        Err(Refusal::Fault(fault)) => match fault.at {
+            Place::Source(span) => Ok(Some(span.start)),
+            _ => Err(NoMemory),
+        },
+    }
+}
+
+#[test]
+fn finds_the_first_bad_line(rt: HostRuntime) {
+    let cases = [
+        ("", None),
+        ("component Two:\n    pass\n", None),
+        ("component Two:\n    pin 123456789012345678\n", None),
+        ("component Two:", Some(0)),
+        ("component Two:\n", Some(15)),
+        ("component Two:\n    pass", Some(15)),
+        ("component Two:\n\tpass\n", Some(15)),
+        ("component Two:\n   pass\n", Some(15)),
+        ("component  Two:\n    pass\n", Some(0)),
+        ("component Two:\n    pass\n    pin\n", Some(24)),
+        ("component Two:\n    pin 1234567890123456789\n", Some(15)),
+        ("component Two:\n    signal pass\n", Some(15)),
+        ("component module:\n    pass\n", Some(0)),
+        ("component Two:\r\n    pass\r\n", Some(0)),
+        ("component Two:\n\n    pass\n", Some(15)),
+        ("component Two:\n    pass # all\n", Some(15)),
+        ("component Two:\n    signal a\n    a ~ 1\n", Some(28)),
+        (
+            "component Two:\n    pass\ncomponent Three:\n    pass\n",
+            Some(24),
+        ),
+        ("component Two :\n    pass\n", Some(0)),
+    ];
+    for (text, want) in cases {
+        assert_eq!(rt;
+            bad_line(rt.alloc(), text.as_bytes()),
+            Ok(want),
+            "at {text}"
+        );
+    }
+    let no_text = bad_line(rt.alloc(), b"component Two:\n    pin \xff\n");
+    assert_eq!(rt; no_text, Ok(Some(15)));
+}
+
+fn token(kind: TokenKind, start: u32, end: u32) -> Token {
+    let file = FileId(1);
+    Token {
+        kind,
+        at: Span { file, start, end },
+    }
+}
+
+fn number(small: Option<u16>, start: u32, end: u32) -> Token {
+    let file = FileId(1);
+    let at = Span { file, start, end };
+    let kind = TokenKind::Number {
+        whole: true,
+        small,
+        at,
+    };
+    Token { kind, at }
+}
+
+#[test]
+fn gives_the_tokens_with_their_places(rt: HostRuntime) -> Result<(), Fail> {
+    let mut names = NameTable::new(rt.alloc())?;
+    let text =
+        b"component Two:\n    signal out\n    pin 65535\n    pin 65536\n    pass\n    pin out\n";
+    let want = [
+        token(TokenKind::Keyword(Keyword::Component), 0, 9),
+        token(TokenKind::Name(Name(3)), 10, 13),
+        token(TokenKind::Mark(Mark::Colon), 13, 14),
+        token(TokenKind::Newline, 14, 14),
+        token(TokenKind::Indent, 19, 19),
+        token(TokenKind::Keyword(Keyword::Signal), 19, 25),
+        token(TokenKind::Name(Name(4)), 26, 29),
+        token(TokenKind::Newline, 29, 29),
+        token(TokenKind::Keyword(Keyword::Pin), 34, 37),
+        number(Some(65_535), 38, 43),
+        token(TokenKind::Newline, 43, 43),
+        token(TokenKind::Keyword(Keyword::Pin), 48, 51),
+        number(None, 52, 57),
+        token(TokenKind::Newline, 57, 57),
+        token(TokenKind::Keyword(Keyword::Pass), 62, 66),
+        token(TokenKind::Newline, 66, 66),
+        token(TokenKind::Keyword(Keyword::Pin), 71, 74),
+        token(TokenKind::Name(Name(4)), 75, 78),
+        token(TokenKind::Newline, 78, 78),
+        token(TokenKind::Dedent, 79, 79),
+        token(TokenKind::End, 79, 79),
+    ];
+    match lex(rt.alloc(), text, FileId(1), &mut names) {
+        Ok(tokens) => assert_eq!(rt; tokens.as_slice(), want.as_slice()),
+        Err(_) => assert!(rt; false),
+    }
+    Ok(())
+}
