@@ -1,0 +1,11 @@
+pub mod BuildLemmas
+pub mod Examples
+pub mod FirstBlockLemmas
+pub mod FirstNetLaws
+pub mod FirstNetLemmas
+pub mod HeadlineLaws
+pub mod NetlistLemmas
+pub mod PlainNameLemmas
+pub mod PrintLemmas
+pub mod WordLaws
+pub mod WordLemmas

@@ -1,0 +1,40 @@
+use Rattle.ato_build.specs.Words.{texts}
+use Rattle.ato_build.specs.Texts.{said_text}
+use Rattle.std.proofs.Common.{inr, refl}
+use Rattle.ato_build.proofs.BuildLemmas.{printed, caused}
+use Rattle.ato_build.proofs.HeadlineLaws.{usage_where, fault_where, built_where}
+use Rattle.ato_build.proofs.running.run.Goals as goal
+
+pub returns-then-say-clause-headline : goal.returns-then-say-clause-headline
+returns-then-say-clause-headline g c =
+    printed (texts c.args.words.now.items) (g.S.Shelf.files c.args.shelf.now) (g.T.Tray.files c.args.tray.now) (g.T.Tray.files c.settle-status.new.tray)
+    (g.O.Sink.written c.args.out.now) (g.O.Sink.written c.say.new.out) c.settle-status.result.status (said_text c.settle-status.result.said)
+    c.settle-status.ensures.means c.if-say.ensures.told
+
+pub returns-then-say-clause-usage_where : goal.returns-then-say-clause-usage_where
+returns-then-say-clause-usage_where g c =
+    usage_where (texts c.args.words.now.items) (g.S.Shelf.files c.args.shelf.now) (g.T.Tray.files c.args.tray.now) (g.T.Tray.files c.settle-status.new.tray)
+    (g.O.Sink.written c.args.out.now) (g.O.Sink.written c.say.new.out) c.settle-status.result.status (returns-then-say-clause-headline g c)
+
+pub returns-then-say-clause-fault_where : goal.returns-then-say-clause-fault_where
+returns-then-say-clause-fault_where g c =
+    fault_where (texts c.args.words.now.items) (g.S.Shelf.files c.args.shelf.now) (g.T.Tray.files c.args.tray.now) (g.T.Tray.files c.settle-status.new.tray)
+    (g.O.Sink.written c.args.out.now) (g.O.Sink.written c.say.new.out) c.settle-status.result.status (returns-then-say-clause-headline g c)
+
+pub returns-then-say-clause-built_where : goal.returns-then-say-clause-built_where
+returns-then-say-clause-built_where g c =
+    built_where (texts c.args.words.now.items) (g.S.Shelf.files c.args.shelf.now) (g.T.Tray.files c.args.tray.now) (g.T.Tray.files c.settle-status.new.tray)
+    (g.O.Sink.written c.args.out.now) (g.O.Sink.written c.say.new.out) c.settle-status.result.status (returns-then-say-clause-headline g c)
+
+pub returns-else-say-clause-write_told : goal.returns-else-say-clause-write_told
+returns-else-say-clause-write_told g c = λ is.
+    inr (
+      c.if-say.ensures.failed refl,
+      (
+        c.settle-status.result.status,
+        said_text c.settle-status.result.said,
+        caused _ _ c.settle-status.result.status c.settle-status.ensures.read (λ p. c.settle-status.ensures.writes.rose p),
+        c.settle-status.ensures.means,
+        c.if-say.ensures.told,
+      ),
+    )

@@ -1,0 +1,25 @@
+//! The compiler: what a command line asks for, done.
+//!
+//! The words, a shelf of files, a tray and a sink come in; files are put, a text is printed, and a
+//! status goes out. specs/Headline.antt says what each status means; it is a clause of [`run`]. For
+//! now the one command is `build`, and a source file is of the first form (docs/LANGUAGE.md).
+#![tactic(auto)]
+
+mod answer;
+mod build;
+mod entry;
+mod first_block;
+mod first_nets;
+mod netlists;
+mod plain_names;
+mod printing;
+mod running;
+mod status;
+#[cfg(test)]
+mod tests;
+mod texts;
+mod words;
+
+pub use running::run;
+pub use status::Status;
+pub use words::{Build, Task, job};

@@ -1,0 +1,37 @@
+ghost use Rattle.std.specs.Prelude.{◌≡◌};
+ghost use Rattle.ato_build.specs.Status.{code_of};
+
+use ato_base::Fault;
+
+/// How a run ended.
+#[derive(Debug, Drop)]
+pub enum Status {
+    /// The netlist stands in the tray.
+    Built,
+    /// A fault stands in the input.
+    Fault(Fault),
+    /// A file could not be read.
+    ReadFault,
+    /// A file could not be put, or a text could not be printed.
+    WriteFault,
+    /// The words are no job.
+    Usage,
+    /// Memory ran out.
+    NoMemory,
+}
+
+impl Status {
+    /// The status code with which the program ends.
+    pub fn code(&self) -> u8
+        ensures { result ≡ code_of self.now }
+    {
+        match self {
+            Status::Built => 0,
+            Status::Fault(_) => 1,
+            Status::ReadFault => 5,
+            Status::WriteFault => 6,
+            Status::Usage => 7,
+            Status::NoMemory => 8,
+        }
+    }
+}

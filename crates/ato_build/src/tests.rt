@@ -1,0 +1,195 @@
+use crate::run;
+use ato_base::{List, NoMemory, Text};
+use ato_outside::{MemShelf, MemSink, MemTray, SureShelf, SureTray};
+use std::alloc::Global;
+use std::test::Fail;
+
+const USAGE: &str =
+    "usage: ato build ENTRY CATALOGUE [--steps N] [--out NAME]\n       ato check ENTRY CATALOGUE CERT\n";
+
+/// Words that blanks divide.
+fn words(alloc: Global, line: &str) -> Result<Vec<String>, NoMemory> {
+    let mut words = Vec::new(alloc);
+    for word in line.split(' ') {
+        words.push(String::from_str(alloc, word)?)?;
+    }
+    Ok(words)
+}
+
+/// The file `main.ato` with these bytes, and a catalogue without rows.
+fn files(alloc: Global, source: &[u8]) -> Result<List<(Text, List<u8>)>, NoMemory> {
+    let mut files = List::new(alloc);
+    for (name, text) in [("main.ato", source), ("cat.csv", b"part,kind\n".as_slice())] {
+        let mut bytes = Vec::new(alloc);
+        bytes.extend_from_slice(text)?;
+        files.push((Text::copy(alloc, name)?, List::from_vec(bytes)))?;
+    }
+    Ok(files)
+}
+
+/// What a run over files in memory gives: its status code, the netlist and the print.
+fn built(alloc: Global, source: &[u8], line: &str) -> Result<(u8, SureTray, MemSink), NoMemory> {
+    let mut shelf = SureShelf::new(files(alloc, source)?);
+    let mut tray = SureTray::new(alloc);
+    let mut sink = MemSink::new(alloc, 200, List::new(alloc))?;
+    let status = run(
+        alloc,
+        &words(alloc, line)?,
+        &mut shelf,
+        &mut tray,
+        &mut sink,
+    );
+    Ok((status.code(), tray, sink))
+}
+
+#[test]
+fn builds_a_component_of_pins(rt: HostRuntime) -> Result<(), Fail> {
+    let netlists = [
+        (
+            "component E:\n    pass\n",
+            "result built\nnets 0\nparts 0\n",
+            "(export (version \"ato-1\")\n  (components\n  )\n  (nets\n  )\n)\n",
+        ),
+        (
+            "component E:\n    pin 3\n    signal s\n    pin A_1\n    pass\n    pin 3\n    pin 0\n",
+            "result built\nnets 3\nparts 1\n",
+            "(export (version \"ato-1\")\n  (components\n    (comp (ref \"U1\") (value \"E\") (footprint \"\") (path \"\"))\n  )\n  (nets\n    (net (code \"1\") (name \":3\")\n      (node (ref \"U1\") (pin \"3\"))\n    )\n    (net (code \"2\") (name \":A_1\")\n      (node (ref \"U1\") (pin \"A_1\"))\n    )\n    (net (code \"3\") (name \":0\")\n      (node (ref \"U1\") (pin \"0\"))\n    )\n  )\n)\n",
+        ),
+    ];
+    for (source, printed, netlist) in netlists {
+        let (code, tray, sink) = built(rt.alloc(), source.as_bytes(), "build main.ato:E cat.csv")?;
+        assert_eq!(rt; code, 0);
+        assert_eq!(rt; sink.written(), printed.as_bytes());
+        assert!(rt;
+            tray.get("out.net")
+                .is_some_and(|put| put == netlist.as_bytes())
+        );
+    }
+    Ok(())
+}
+
+#[test]
+fn refuses_bad_input_and_puts_nothing(rt: HostRuntime) -> Result<(), Fail> {
+    let faults = [
+        (
+            "",
+            "build main.ato:T cat.csv",
+            "fault F11 NameUnknown word 1\n",
+        ),
+        (
+            "component T:\n    pin 1\n",
+            "build main.ato:U cat.csv",
+            "fault F11 NameUnknown word 1\n",
+        ),
+        (
+            "component T:\n    pin 1\n",
+            "build lost.ato:T cat.csv",
+            "fault F8 FileMissing word 1\n",
+        ),
+        (
+            "component T:\n",
+            "build main.ato:T cat.csv",
+            "fault F6 Syntax main.ato:2:1\n",
+        ),
+        (
+            "component T:\n    pin 1\n    a ~ pin 1\n",
+            "build main.ato:T cat.csv",
+            "fault F6 Syntax main.ato:3:1\n",
+        ),
+        (
+            "component T:\n    pin 1\n    pin 2",
+            "build main.ato:T cat.csv",
+            "fault F6 Syntax main.ato:3:1\n",
+        ),
+        (
+            "module T:\n    pin 1\n",
+            "build main.ato:T cat.csv",
+            "fault F6 Syntax main.ato:1:1\n",
+        ),
+    ];
+    for (source, line, printed) in faults {
+        let (code, tray, sink) = built(rt.alloc(), source.as_bytes(), line)?;
+        assert_eq!(rt; code, 1);
+        assert_eq!(rt; sink.written(), printed.as_bytes());
+        assert_eq!(rt; tray.get("out.net"), None);
+    }
+    Ok(())
+}
+
+#[test]
+fn refuses_a_file_beyond_the_limit(rt: HostRuntime) -> Result<(), Fail> {
+    let alloc = rt.alloc();
+    for (size, printed) in [
+        (262_144, "fault F6 Syntax main.ato:1:1\n"),
+        (262_145, "fault F9 FileTooLong word 1\n"),
+    ] {
+        let source = vec![in alloc; b'x'; size]?;
+        let (code, _, sink) = built(alloc, source.as_slice(), "build main.ato:T cat.csv")?;
+        assert_eq!(rt; code, 1);
+        assert_eq!(rt; sink.written(), printed.as_bytes());
+    }
+    Ok(())
+}
+
+#[test]
+fn words_that_are_no_job_print_the_usage(rt: HostRuntime) -> Result<(), Fail> {
+    for line in [
+        "",
+        "build",
+        "build main.ato:T",
+        "build main.ato:T cat.csv more",
+        "make main.ato:T cat.csv",
+        "build main.ato cat.csv",
+        "build main.ato:pin cat.csv",
+        "build main.ato:1T cat.csv",
+        "build :T cat.csv",
+        "build /main.ato:T cat.csv",
+        "build ../main.ato:T cat.csv",
+        "build main.ato:T a\\b.csv",
+        "build main.ato:T out.csv",
+        "build out.cert:T cat.csv",
+        "build -main.ato:T cat.csv",
+        "build main.ato:T -cat.csv",
+        "build -- main.ato:T cat.csv",
+    ] {
+        let (code, _, sink) = built(rt.alloc(), b"", line)?;
+        assert_eq!(rt; code, 7, "{line}");
+        assert_eq!(rt; sink.written(), USAGE.as_bytes());
+    }
+    // A block's name may have any letters, and the entry is divided at its last colon.
+    for line in ["build main.ato:Größe cat.csv", "build a:b:T cat.csv"] {
+        let (code, _, _) = built(rt.alloc(), b"", line)?;
+        assert_eq!(rt; code, 1, "{line}");
+    }
+    Ok(())
+}
+
+#[test]
+fn a_failure_outside_is_told(rt: HostRuntime) -> Result<(), Fail> {
+    let alloc = rt.alloc();
+    let words = words(alloc, "build main.ato:E cat.csv")?;
+    let source = b"component E:\n    pin 1\n";
+    // The numbers of the calls that fail: a read, a put after 5 bytes, a print.
+    for (read, put, print, code, printed, netlist) in [
+        (1, 9, 9, 5, "read fault main.ato\n", None),
+        (
+            9,
+            1,
+            9,
+            6,
+            "write fault out.net\n",
+            Some(b"(expo".as_slice()),
+        ),
+        (9, 1, 2, 6, "write fault ", Some(b"(expo".as_slice())),
+        (1, 9, 1, 6, "", None),
+    ] {
+        let mut shelf = MemShelf::new(files(alloc, source)?, List::from_vec(vec![in alloc; read]?));
+        let mut tray = MemTray::new(alloc, List::from_vec(vec![in alloc; (put, 5)]?));
+        let mut sink = MemSink::new(alloc, 200, List::from_vec(vec![in alloc; print]?))?;
+        let status = run(alloc, &words, &mut shelf, &mut tray, &mut sink);
+        assert_eq!(rt; status.code(), code);
+        assert_eq!(rt; sink.written(), printed.as_bytes());
+        assert_eq!(rt; tray.get("out.net"), netlist);
+    }
+    Ok(())
+}

@@ -1,0 +1,122 @@
+ghost use Rattle.std.specs.Prelude.{◌≡◌, ◌≤◌, IfOk, length, string_bytes};
+ghost use Rattle.ato_build.specs.Texts.{line_at, begins_char, column_at, place_in_text, word_text, place_text, fault_text, summary_text, read_fault_text, usage_text, LiesWithin};
+
+use crate::Build;
+use ato_base::{Fault, NetList, NoMemory, Place};
+use std::alloc::Global;
+
+/// The line of a byte, from 1.
+fn line_at(source: &[u8], at: usize) -> usize
+    requires { at ≤ length source.now }
+    ensures { result ≡ line_at source.now at }
+{
+    source[..at].iter().filter(|byte| **byte == b'\n').count() + 1
+}
+
+fn begins_char(byte: u8) -> bool
+    ensures { result ≡ begins_char byte }
+{
+    byte < 128 || byte >= 192
+}
+
+/// The column of a byte in characters, from 1.
+fn column_at(source: &[u8], at: usize) -> usize
+    requires { at ≤ length source.now }
+    ensures { result ≡ column_at source.now at }
+{
+    source[..at]
+        .iter()
+        .rev()
+        .take_while(|byte| **byte != b'\n')
+        .filter(|byte| begins_char(**byte))
+        .count()
+        + 1
+}
+
+/// Two numbers behind a file's name.
+#[tactic(auto, unfolding(crate::specs::Texts::place_in_text))]
+fn place_in_text(alloc: Global, file: &str, row: usize, column: usize) -> Result<String, NoMemory>
+    ensures { IfOk result (λ text. string_bytes text ≡ place_in_text file.now row column) }
+{
+    Ok(format!(in alloc; "{file}:{row}:{column}")?)
+}
+
+#[tactic(auto, unfolding(crate::specs::Texts::word_text))]
+fn word_text(alloc: Global, word: u32) -> Result<String, NoMemory>
+    ensures { IfOk result (λ text. string_bytes text ≡ word_text word) }
+{
+    Ok(format!(in alloc; "word {word}")?)
+}
+
+fn place_text(
+    alloc: Global,
+    build: &Build,
+    source: &[u8],
+    place: &Place,
+) -> Result<String, NoMemory>
+    requires { LiesWithin source.now place.now }
+    ensures { IfOk result (λ text. string_bytes text ≡ place_text build.now source.now place.now) }
+{
+    match place {
+        Place::Source(span) => {
+            let at = span.start as usize;
+            let row = line_at(source, at);
+            let column = column_at(source, at);
+            place_in_text(alloc, build.file.as_str(), row, column)
+        }
+        Place::Cell { row, column } => place_in_text(
+            alloc,
+            build.catalogue.as_str(),
+            *row as usize,
+            *column as usize,
+        ),
+        Place::Word(word) => word_text(alloc, *word),
+    }
+}
+
+/// The line of a fault.
+#[tactic(auto, unfolding(crate::specs::Texts::fault_text))]
+pub(crate) fn fault_text(
+    alloc: Global,
+    build: &Build,
+    source: &[u8],
+    fault: &Fault,
+) -> Result<String, NoMemory>
+    requires { LiesWithin source.now fault.now.at }
+    ensures { IfOk result (λ text. string_bytes text ≡ fault_text build.now source.now fault.now) }
+{
+    let number = fault.kind.number();
+    let name = fault.kind.name();
+    let place = place_text(alloc, build, source, &fault.at)?;
+    let place = place.as_str();
+    Ok(format!(in alloc; "fault F{number} {name} {place}\n")?)
+}
+
+/// The lines for a net list that is put.
+#[tactic(auto, unfolding(crate::specs::Texts::summary_text))]
+pub(crate) fn summary_text(alloc: Global, list: &NetList) -> Result<String, NoMemory>
+    ensures { IfOk result (λ text. string_bytes text ≡ summary_text list.now) }
+{
+    let nets = list.nets.len();
+    let parts = list.comps.len();
+    Ok(format!(in alloc; "result built\nnets {nets}\nparts {parts}\n")?)
+}
+
+/// The line for a file that could not be read.
+#[tactic(auto, unfolding(crate::specs::Texts::read_fault_text))]
+pub(crate) fn read_fault_text(alloc: Global, file: &str) -> Result<String, NoMemory>
+    ensures { IfOk result (λ text. string_bytes text ≡ read_fault_text file.now) }
+{
+    Ok(format!(in alloc; "read fault {file}\n")?)
+}
+
+/// How the program is called.
+const USAGE: &str =
+    "usage: ato build ENTRY CATALOGUE [--steps N] [--out NAME]\n       ato check ENTRY CATALOGUE CERT\n";
+
+/// The lines for words that are no job.
+pub(crate) fn usage_text(alloc: Global) -> Result<String, NoMemory>
+    ensures { IfOk result (λ text. string_bytes text ≡ usage_text) }
+{
+    Ok(String::from_str(alloc, USAGE)?)
+}
