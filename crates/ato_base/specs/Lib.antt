@@ -1,3 +1,5 @@
+pub mod Joined
+pub mod Classes
 pub mod Lending
 pub mod Faults
 pub mod Keywords
