@@ -1,0 +1,9 @@
+pub mod Decimals
+pub mod Faults
+pub mod Fractions
+pub mod LowestTerms
+pub mod Numbers
+pub mod Range
+pub mod Reading
+pub mod Scaling
+pub mod Trimmed

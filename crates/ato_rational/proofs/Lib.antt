@@ -1,0 +1,11 @@
+pub mod Ends
+pub mod Extremes
+pub mod Fields
+pub mod Order
+pub mod Powers
+pub mod Products
+pub mod QuotientSets
+pub mod Quotients
+pub mod RationalRing
+pub mod Ring
+pub mod Slopes

@@ -1,0 +1,3 @@
+pub mod OrderedField
+pub mod Ranges
+pub mod Rational
