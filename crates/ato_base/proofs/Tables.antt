@@ -11,7 +11,7 @@ use Rattle.indexmap.specs.IndexSet.{insert_key}
 use Rattle.ato_base.specs.NameTable.{with_name, number_of}
 
 -- a test of what the elements stand for
-list_any-map : {A B : Type 0} (v : A → B) (p : B → Bool) (xs : List A) → list_any p (map v xs) ≡ list_any (λ x. p (v x)) xs
+pub list_any-map : {A B : Type 0} (v : A → B) (p : B → Bool) (xs : List A) → list_any p (map v xs) ≡ list_any (λ x. p (v x)) xs
 list_any-map v p [] = refl
 list_any-map v p (x ∷ xs) = ap (λ b. p (v x) || b) (list_any-map v p xs)
 

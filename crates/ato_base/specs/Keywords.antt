@@ -1,4 +1,4 @@
-use Rattle.std.specs.Prelude.{ℕ, List, [], ◌∷◌, Bool, codes}
+use Rattle.std.specs.Prelude.{ℕ, List, [], ◌∷◌, Bool, codes, map}
 use Rattle.std.specs.List.{list_any}
 use Rattle.std.specs.Str.{bytes_eq}
 use Rattle.ato_base.specs.declared.keywords.Keyword.{Keyword}
@@ -52,10 +52,10 @@ mark_text marks.Slash = codes "/"
 mark_text marks.Bar = codes "|"
 mark_text marks.Percent = codes "%"
 
--- the keywords' spellings
-abbrev pub keyword_texts : List (List ℕ)
-keyword_texts = codes "module" ∷ codes "component" ∷ codes "interface" ∷ codes "from" ∷ codes "import" ∷ codes "new" ∷ codes "signal" ∷ codes "pin" ∷ codes "assert" ∷ codes "within" ∷ codes "is" ∷ codes "to" ∷ codes "pass" ∷ codes "for" ∷ codes "in" ∷ codes "True" ∷ codes "False" ∷ []
+-- the keywords
+abbrev pub all_keywords : List Keyword
+all_keywords = words.Module ∷ words.Component ∷ words.Interface ∷ words.From ∷ words.Import ∷ words.New ∷ words.Signal ∷ words.Pin ∷ words.Assert ∷ words.Within ∷ words.Is ∷ words.To ∷ words.Pass ∷ words.For ∷ words.In ∷ words.True ∷ words.False ∷ []
 
 -- The text is a keyword.
 abbrev pub is_keyword : List ℕ → Bool
-is_keyword text = list_any (bytes_eq text) keyword_texts
+is_keyword text = list_any (bytes_eq text) (map keyword_text all_keywords)

@@ -115,20 +115,24 @@ impl FaultKind {
     }
 }
 
-/// A fault of the input: its kind, its place, a second place where there is one, and the names of
-/// the instance in which it stands.
+/// A fault of the input.
 #[derive(Debug, Drop)]
 pub struct Fault {
     pub kind: FaultKind,
+    /// Where it stands.
     pub at: Place,
+    /// A second place, where there is one.
     pub other: Option<Place>,
+    /// The names from the root to the instance in which it stands.
     pub path: List<Name>,
 }
 
 /// Why a call has no answer: a fault of the input, or want of memory.
 #[derive(Debug, Drop)]
 pub enum Refusal {
+    /// A fault of the input.
     Fault(Fault),
+    /// Memory ran out.
     NoMemory,
 }
 

@@ -1,5 +1,5 @@
-use Rattle.std.proofs.Common.{◌≡◌, ℕ, ◌<◌, ◌≤◌, List, length, inl, inr, subst, sym, refl, ap, ◌∙◌, arith, take}
-use Rattle.std.specs.Prelude.{Option, Some, None, Result, Ok, Err, IfOk, IfSome, nat_le, if◌then◌else◌}
+use Rattle.std.proofs.Common.{◌≡◌, ℕ, ◌<◌, ◌≤◌, List, length, subst, sym, refl, ap, ◌∙◌, arith}
+use Rattle.std.specs.Prelude.{Option, Some, None, Result, Ok, Err, IfOk, IfSome, if◌then◌else◌}
 use Rattle.std.specs.FinMap.{get}
 use Rattle.std.proofs.lemmas.Bool.{le-leb, lt-leb}
 use Rattle.std.proofs.lemmas.List.{take_all}
@@ -12,7 +12,7 @@ use Rattle.ato_build.specs.Headline.{Means, Headline, IsCaused}
 use Rattle.ato_base.specs.declared.faults.Fault.{Fault}
 use Rattle.ato_base.specs.declared.memory.NoMemory.{NoMemory}
 use Rattle.ato_build.specs.Answers.{IsAnswer}
-use Rattle.ato_build.specs.Printing.{Appends, AppendsPrefix}
+use Rattle.ato_build.specs.Printing.{Appends}
 use Rattle.ato_build.specs.Texts.{fault_text, said_text}
 use Rattle.ato_build.specs.Words.{IsBuild}
 use Rattle.ato_build.specs.declared.answer.Answer.{Answer}

@@ -1,43 +1,81 @@
 -- Small cases, worked by hand.
-use Rattle.std.proofs.Common.{◌≡◌, true, false, ◌&&◌, [], ◌∷◌, ◌++◌, ap, refl}
+use Rattle.std.proofs.Common.{◌≡◌, true, false, ◌&&◌, [], ◌∷◌, ◌++◌, ap, refl, arith}
 use Rattle.std.specs.Prelude.{codes}
 use Rattle.std.specs.Fmt.{digits}
 use Rattle.ato_base.specs.declared.faults.FaultKind.TheVariants as kinds
 use Rattle.ato_base.specs.Names.{is_name}
 use Rattle.ato_lexer.specs.declared.first_form.Block.{Block}
-use Rattle.ato_lexer.specs.declared.first_form.Line.TheVariants.{Pass, Pin}
+use Rattle.ato_base.specs.Classes.{no_class, a_class, no_point, related}
+use Rattle.ato_base.specs.Joined.{same, along, against}
+use Rattle.ato_base.specs.declared.nets.NetList.{NetList}
+use Rattle.ato_lexer.specs.declared.first_form.End.TheVariants.{Name, Declared}
+use Rattle.ato_lexer.specs.declared.first_form.Line.TheVariants.{Pass, Declaration, Join}
+use Rattle.ato_lexer.specs.declared.first_form.Point.TheVariants.{Signal, Pin}
 use Rattle.ato_lexer.specs.FirstTokens.{syntax_fault}
 use Rattle.ato_build.specs.Entry.{word_fault, entry_file}
-use Rattle.ato_build.specs.FirstNets.{list_of}
+use Rattle.ato_build.specs.FirstNets.{net_pin, by_signal, IsNetList}
+use Rattle.ato_build.specs.FirstPoints.{IsJoinedByLine}
 use Rattle.ato_build.specs.Netlists.{list_text, comp_text, net_text, node_text, field, quoted}
 use Rattle.ato_build.specs.PlainNames.{is_plain, is_put}
 use Rattle.ato_build.specs.Texts.{column_at, fault_text, place_in_text, word_text}
 use Rattle.ato_build.specs.Words.{IsBuild}
 use Rattle.ato_build.specs.declared.words.Build.{Build}
 
--- a block with no pin
+-- ---- a block with no pin
+
 abbrev empty_block : Block
 empty_block = record { name = codes "E"; lines = Pass ∷ [] }
 
--- Its netlist has no part and no net.
-pub empty_netlist : list_text (list_of empty_block) ≡ codes "(export (version \"ato-1\")\n  (components\n  )\n  (nets\n  )\n)\n"
+abbrev empty_list : NetList
+empty_list = record { comps = []; nets = [] }
+
+-- Its net list has no part and no net.
+pub empty_is : IsNetList empty_block empty_list
+empty_is = record { comps = refl; classes = []; are_classes = no_class; nets = tt }
+
+pub empty_netlist : list_text empty_list ≡ codes "(export (version \"ato-1\")\n  (components\n  )\n  (nets\n  )\n)\n"
 unfolding list_text
 empty_netlist = refl
 
--- a block with two pins, of which the first is mentioned twice
-abbrev two_pins : Block
-two_pins = record { name = codes "Two"; lines = Pin (codes "1") ∷ Pin (codes "2") ∷ Pin (codes "1") ∷ [] }
+-- ---- a block with two pins, which a signal joins
 
--- Its netlist has one part, and a net for each pin.
-pub two_pins_netlist : list_text (list_of two_pins) ≡
+abbrev two_pins : Block
+two_pins = record {
+  name = codes "Two";
+  lines = Declaration (Signal (codes "a")) ∷ Join (Name (codes "a")) (Declared (Pin (codes "1"))) ∷ Join (Declared (Pin (codes "2"))) (Name (codes "a")) ∷ [];
+}
+
+abbrev one_net : NetList
+one_net = record {
+  comps = record { designator = codes "U1"; value = codes "Two"; footprint = []; path = [] } ∷ [];
+  nets = record { name = codes "a"; pins = net_pin (codes "1") ∷ net_pin (codes "2") ∷ [] } ∷ [];
+}
+
+signal_to_one : IsJoinedByLine two_pins (Signal (codes "a")) (Pin (codes "1"))
+signal_to_one = (Name (codes "a"), Declared (Pin (codes "1")), (1, omega arith, refl), refl, refl)
+
+two_to_signal : IsJoinedByLine two_pins (Pin (codes "2")) (Signal (codes "a"))
+two_to_signal = (Declared (Pin (codes "2")), Name (codes "a"), (2, omega arith, refl), refl, refl)
+
+-- The two pins are joined through the signal, and the net has its name.
+pub two_pins_is : IsNetList two_pins one_net
+two_pins_is = record {
+  comps = refl;
+  classes = (codes "1" ∷ codes "2" ∷ []) ∷ [];
+  are_classes = a_class (related (against signal_to_one (against two_to_signal same)) no_point) no_class;
+  nets = ((by_signal [] [] refl (along signal_to_one same) (λ k d h. absurd (omega arith)), refl), tt);
+}
+
+pub two_pins_netlist : list_text one_net ≡
     codes "(export (version \"ato-1\")\n  (components\n"
     ++ codes "    (comp (ref \"U1\") (value \"Two\") (footprint \"\") (path \"\"))\n"
     ++ codes "  )\n  (nets\n"
-    ++ codes "    (net (code \"1\") (name \":1\")\n      (node (ref \"U1\") (pin \"1\"))\n    )\n"
-    ++ codes "    (net (code \"2\") (name \":2\")\n      (node (ref \"U1\") (pin \"2\"))\n    )\n"
+    ++ codes "    (net (code \"1\") (name \"a\")\n      (node (ref \"U1\") (pin \"1\"))\n      (node (ref \"U1\") (pin \"2\"))\n    )\n"
     ++ codes "  )\n)\n"
 unfolding list_text comp_text net_text node_text field quoted digits
 two_pins_netlist = refl
+
+-- ---- printed texts, names and words
 
 -- a build of main.ato
 abbrev main_build : Build

@@ -12,6 +12,7 @@ use Rattle.ato_lexer.specs.FirstForm.{IsFile, IsBad}
 use Rattle.ato_lexer.specs.FirstTokens.{syntax_fault}
 use Rattle.ato_lexer.specs.declared.first_form.Block.{Block}
 use Rattle.ato_outside.specs.Files.{Files}
+use Rattle.ato_build.specs.FirstPoints.{AreKnown, IsUnknownAt}
 use Rattle.ato_build.specs.declared.words.Build.{Build}
 
 -- The most bytes that a source file may have.
@@ -56,20 +57,29 @@ IsNamed (Some block) name = block.name ≡ name
 abbrev pub LacksBlock : List ℕ → List ℕ → Type 0
 LacksBlock source name = (file : Option Block) × IsFile source file × (IsNamed file name → ⊥)
 
--- The entry gives this block.
+-- The entry gives this block: it has the name, and each name at an end of a join is one of its signals.
 abbrev pub Gives : Build → Entry → Block → Type 0
 Gives build Missing block = ⊥
 Gives build TooLong block = ⊥
-Gives build (Whole source) block = IsFile source (Some block) × (block.name ≡ build.block)
+Gives build (Whole source) block = IsFile source (Some block) × (block.name ≡ build.block) × AreKnown block
+
+-- The block of the name has an end that is no signal, for the first time in the line at this byte.
+abbrev pub LacksSignal : List ℕ → List ℕ → ℕ → Type 0
+LacksSignal source name at = (block : Block) × IsFile source (Some block) × (block.name ≡ name) × IsUnknownAt block at
+
+-- the fault of an end that is no signal, at the first byte of its line
+abbrev pub member_fault : ℕ → Fault
+member_fault at = record { kind = kinds.NoSuchMember; at = places.Source (record { file = entry_file; start = at; end = at }); other = None; path = [] }
 
 -- The fault stands: the file is missing (F8), too long (F9), not of the form (F6, at the first byte of the first
--- line that is not), or has no block of the name (F11).
+-- line that is not), has no block of the name (F11), or joins a name that is no signal (F15).
 abbrev pub Stands : Build → Entry → Fault → Type 0
 Stands build Missing f = f ≡ word_fault kinds.FileMissing 1
 Stands build TooLong f = f ≡ word_fault kinds.FileTooLong 1
 Stands build (Whole source) f =
     ((at : ℕ) × IsBad source at × (f ≡ syntax_fault entry_file at))
     ⊎ (LacksBlock source build.block × (f ≡ word_fault kinds.NameUnknown 1))
+    ⊎ ((at : ℕ) × LacksSignal source build.block at × (f ≡ member_fault at))
 
 -- Why the entry gives no block: a fault that stands, or want of memory.
 abbrev pub IsRefused : Build → Entry → Refusal → Type 0

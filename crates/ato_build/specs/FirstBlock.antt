@@ -1,14 +1,21 @@
--- How the tokens of a file of the first form are read back.
-use Rattle.std.specs.Prelude.{◌≡◌, ℕ, ◌≤◌, List, [], ◌∷◌, ◌++◌, length, slice_range, Option, Some, None}
-use Rattle.std.specs.Option.{option_map_or}
+-- How the tokens of a file of the first form are read back, one after another.
+use Rattle.std.specs.Prelude.{ℕ, ◌≤◌, List, [], ◌∷◌, ◌++◌, length, fold, slice_range, Option, Some, None}
 use Rattle.ato_base.specs.declared.places.Span.{Span}
 use Rattle.ato_base.specs.declared.tokens.Token.{Token}
 use Rattle.ato_base.specs.declared.tokens.TokenKind.{TokenKind}
 use Rattle.ato_base.specs.declared.tokens.TokenKind.TheVariants as kinds
 use Rattle.ato_base.specs.declared.keywords.Keyword.{Keyword}
 use Rattle.ato_base.specs.declared.keywords.Keyword.TheVariants as words
+use Rattle.ato_base.specs.declared.keywords.Mark.{Mark}
+use Rattle.ato_base.specs.declared.keywords.Mark.TheVariants as marks
+use Rattle.ato_lexer.specs.declared.first_form.Point.TheVariants as points
+use Rattle.ato_lexer.specs.declared.first_form.End.{End}
+use Rattle.ato_lexer.specs.declared.first_form.End.TheVariants as ends
 use Rattle.ato_lexer.specs.declared.first_form.Line.{Line}
-use Rattle.ato_lexer.specs.declared.first_form.Line.TheVariants.{Pass, Signal, Pin}
+use Rattle.ato_lexer.specs.declared.first_form.Line.TheVariants as lines
+use Rattle.ato_build.specs.declared.first_block.Opening.{Opening}
+use Rattle.ato_build.specs.declared.first_block.Opening.TheVariants.{Bare, Signal, Pin}
+use Rattle.ato_build.specs.declared.first_block.Reading.{Reading}
 
 -- The place lies in the source.
 pub record IsWithin (source : List ℕ) (at : Span) : Type 0 where
@@ -19,19 +26,49 @@ pub record IsWithin (source : List ℕ) (at : Span) : Type 0 where
 abbrev pub spelled_text : List ℕ → Span → List ℕ
 spelled_text source at = slice_range source at.start at.end
 
--- the line that begins with a keyword, where this is the place of the next token
-abbrev pub keyword_line : List ℕ → Keyword → Span → Option Line
-keyword_line source words.Pass next = Some Pass
-keyword_line source words.Signal next = Some (Signal (spelled_text source next))
-keyword_line source words.Pin next = Some (Pin (spelled_text source next))
-keyword_line source keyword next = None
+-- between two lines, after these lines
+abbrev pub between : List Line → Reading
+between before = record { opening = Bare; left = None; right = None; lines = before }
 
--- the line that begins with a token
-abbrev pub spelled_line : List ℕ → TokenKind → Span → Option Line
-spelled_line source (kinds.Keyword keyword) next = keyword_line source keyword next
-spelled_line source kind next = None
+-- the end that a text behind an opening is
+abbrev pub end_of : Opening → List ℕ → End
+end_of Bare text = ends.Name text
+end_of Signal text = ends.Declared (points.Signal text)
+end_of Pin text = ends.Declared (points.Pin text)
 
--- the lines that tokens spell behind a token of this kind
-abbrev pub spelled_lines : List ℕ → TokenKind → List Token → List Line
-spelled_lines source before [] = []
-spelled_lines source before (token ∷ tokens) = option_map_or (λ line. line ∷ []) (spelled_line source before token.at) [] ++ spelled_lines source token.kind tokens
+-- the lines after one whose ends are these
+abbrev pub closed : Option End → Option End → List Line → List Line
+closed None None before = before
+closed None (Some (ends.Name name)) before = before
+closed None (Some (ends.Declared point)) before = before ++ lines.Declaration point ∷ []
+closed (Some left) None before = before
+closed (Some left) (Some right) before = before ++ lines.Join left right ∷ []
+
+-- after a keyword
+abbrev pub keyword_step : Reading → Keyword → Reading
+keyword_step reading words.Pass = between (reading.lines ++ lines.Pass ∷ [])
+keyword_step reading words.Signal = record { opening = Signal; left = reading.left; right = None; lines = reading.lines }
+keyword_step reading words.Pin = record { opening = Pin; left = reading.left; right = None; lines = reading.lines }
+keyword_step reading keyword = between reading.lines
+
+-- after a mark
+abbrev pub mark_step : Reading → Mark → Reading
+mark_step reading marks.Tilde = record { opening = Bare; left = reading.right; right = None; lines = reading.lines }
+mark_step reading mark = between reading.lines
+
+-- after a name or a number
+abbrev pub text_step : Reading → List ℕ → Reading
+text_step reading text = record { opening = Bare; left = reading.left; right = Some (end_of reading.opening text); lines = reading.lines }
+
+-- after a token
+abbrev pub kind_step : List ℕ → Reading → TokenKind → Span → Reading
+kind_step source reading (kinds.Keyword keyword) at = keyword_step reading keyword
+kind_step source reading (kinds.Mark mark) at = mark_step reading mark
+kind_step source reading (kinds.Name name) at = text_step reading (spelled_text source at)
+kind_step source reading (kinds.Number whole small place) at = text_step reading (spelled_text source at)
+kind_step source reading kinds.Newline at = between (closed reading.left reading.right reading.lines)
+kind_step source reading kind at = between reading.lines
+
+-- after tokens
+abbrev pub tokens_read : List ℕ → Reading → List Token → Reading
+tokens_read source reading tokens = fold (λ r token. kind_step source r token.kind token.at) reading tokens

@@ -1,38 +1,50 @@
--- The net list of a block of the first form. No line joins two points yet, so each pin is a net of its own.
-use Rattle.std.specs.Prelude.{ℕ, not, List, [], ◌∷◌, filter, map, codes}
-use Rattle.std.specs.Str.{bytes_eq}
+-- The net list of a block of the first form.
+use Rattle.std.specs.Prelude.{◌≡◌, ℕ, List, [], ◌∷◌, ◌++◌, map, All, Contains, Some, codes}
+use Rattle.std.specs.List.{AllZip, slice_get}
+use Rattle.ato_base.specs.Classes.{Classes}
 use Rattle.ato_base.specs.declared.nets.Comp.{Comp}
+use Rattle.ato_base.specs.declared.nets.NetPin.{NetPin}
 use Rattle.ato_base.specs.declared.nets.Net.{Net}
 use Rattle.ato_base.specs.declared.nets.NetList.{NetList}
-use Rattle.ato_lexer.specs.declared.first_form.Line.{Line}
-use Rattle.ato_lexer.specs.declared.first_form.Line.TheVariants.{Pass, Signal, Pin}
+use Rattle.ato_lexer.specs.declared.first_form.Point.TheVariants.{Signal, Pin}
 use Rattle.ato_lexer.specs.declared.first_form.Block.{Block}
+use Rattle.ato_build.specs.FirstPoints.{AreJoined, signals_of, pins_of}
 
--- the labels of the pins that the lines mention, in their order
-abbrev pub mentions : List Line → List (List ℕ)
-mentions [] = []
-mentions (Pass ∷ lines) = mentions lines
-mentions (Signal name ∷ lines) = mentions lines
-mentions (Pin label ∷ lines) = label ∷ mentions lines
+-- a pin of the one part
+abbrev pub net_pin : List ℕ → NetPin
+net_pin label = record { comp = 0; label = label }
 
--- each text once, in the order of the first mentions
-abbrev pub distinct : List (List ℕ) → List (List ℕ)
-distinct [] = []
-distinct (text ∷ texts) = text ∷ filter (λ other. not (bytes_eq text other)) (distinct texts)
+-- The name of a net with this first pin: the first signal that is joined with the pin, or the pin's own name, which is
+-- the root's empty path, a colon and the label.
+pub data IsNetName (block : Block) (label : List ℕ) : List ℕ → Type 0 where
+  by_signal : {name : List ℕ} (front back : List (List ℕ)) → signals_of block ≡ front ++ name ∷ back → AreJoined block (Signal name) (Pin label)
+      → All (λ other. AreJoined block (Signal other) (Pin label) → ⊥) front → IsNetName block label name
+  by_pin : All (λ other. AreJoined block (Signal other) (Pin label) → ⊥) (signals_of block) → IsNetName block label (58 ∷ label)
 
--- The pins of a block: a repeated line names the same pin.
-abbrev pub pins_of : Block → List (List ℕ)
-pins_of block = distinct (mentions block.lines)
-
--- the net of a pin of the root, which has no other point: its name is the root's empty path, a colon and the label
-abbrev pub net_of : List ℕ → Net
-net_of label = record { name = 58 ∷ label; pins = record { comp = 0; label = label } ∷ [] }
+-- The net is made of these pins.
+abbrev pub IsNet : Block → List (List ℕ) → Net → Type 0
+IsNet block [] net = ⊥
+IsNet block (label ∷ labels) net = IsNetName block label net.name × (net.pins ≡ map net_pin (label ∷ labels))
 
 -- The block is the one part, where it has a pin.
 abbrev pub comps_of : Block → List (List ℕ) → List Comp
 comps_of block [] = []
 comps_of block (label ∷ labels) = record { designator = codes "U1"; value = block.name; footprint = []; path = [] } ∷ []
 
--- the net list of a block
-abbrev pub list_of : Block → NetList
-list_of block = record { comps = comps_of block (pins_of block); nets = map net_of (pins_of block) }
+-- The net list of a block: its nets are the classes of joined pins, in the order of their first pins.
+pub record IsNetList (block : Block) (list : NetList) : Type 0 where
+  pub comps : list.comps ≡ comps_of block (pins_of block)
+  pub classes : List (List (List ℕ))
+  pub are_classes : Classes (λ a b. AreJoined block (Pin a) (Pin b)) (pins_of block) classes
+  pub nets : AllZip (IsNet block) classes list.nets
+
+-- The pin stands in the net at this place.
+abbrev pub StandsIn : NetList → List ℕ → ℕ → Type 0
+StandsIn list label place = (net : Net) × (slice_get list.nets place ≡ Some net) × Contains net.pins (net_pin label)
+
+-- Two pins of the block share a net exactly where they are joined, and each pin stands in exactly one net.
+pub record SharesExactly (block : Block) (list : NetList) : Type 0 where
+  pub joined : (a b : List ℕ) (place : ℕ) → StandsIn list a place → StandsIn list b place → AreJoined block (Pin a) (Pin b)
+  pub shared : (a b : List ℕ) → Contains (pins_of block) a → Contains (pins_of block) b → AreJoined block (Pin a) (Pin b)
+      → (place : ℕ) × StandsIn list a place × StandsIn list b place
+  pub once : (a : List ℕ) (place other : ℕ) → StandsIn list a place → StandsIn list a other → place ≡ other

@@ -2,13 +2,14 @@
 -- the tray's files before and after, `before` and `now` the sink's bytes before and after.
 use Rattle.std.specs.Prelude.{◌≡◌, ◌⊎◌, ℕ, List, ◌++◌, codes, Option, Result, Ok, Err}
 use Rattle.ato_base.specs.declared.faults.Fault.{Fault}
+use Rattle.ato_base.specs.declared.nets.NetList.{NetList}
 use Rattle.ato_lexer.specs.declared.first_form.Block.{Block}
 use Rattle.ato_outside.specs.Files.{Files}
 use Rattle.ato_outside.specs.Tray.{PutsWhereTold}
 use Rattle.ato_outside.specs.declared.tray.TrayError.{TrayError}
 use Rattle.ato_outside.specs.declared.tray.TrayError.TheVariants as tray_errors
 use Rattle.ato_build.specs.Entry.{Entry, HasEntry, source_of, Gives, Stands}
-use Rattle.ato_build.specs.FirstNets.{list_of}
+use Rattle.ato_build.specs.FirstNets.{IsNetList, SharesExactly}
 use Rattle.ato_build.specs.Netlists.{list_text}
 use Rattle.ato_build.specs.Printing.{Appends, AppendsPrefix}
 use Rattle.ato_build.specs.Texts.{fault_text, summary_text, read_fault_text, write_fault_text, memory_text, usage_text}
@@ -17,17 +18,20 @@ use Rattle.ato_build.specs.declared.words.Build.{Build}
 use Rattle.ato_build.specs.declared.status.Status.{Status}
 use Rattle.ato_build.specs.declared.status.Status.TheVariants as answers
 
--- The put of the netlist of the block that the entry gives was answered so.
-pub record PutsNetlist (words : List (List ℕ)) (held old new : Option Files) (build : Build) (entry : Entry) (block : Block) (answer : Result (Unit {0}) TrayError) : Type 0 where
+-- The put of the netlist of the block that the entry gives was answered so. Two pins share a net of it exactly where
+-- the lines of the block join them.
+pub record PutsNetlist (words : List (List ℕ)) (held old new : Option Files) (build : Build) (entry : Entry) (block : Block) (list : NetList) (answer : Result (Unit {0}) TrayError) : Type 0 where
   pub job : IsBuild words build
   pub read : HasEntry held build.file entry
   pub gives : Gives build entry block
-  pub put : PutsWhereTold old new (build.out ++ codes ".net") (list_text (list_of block)) answer
+  pub is_list : IsNetList block list
+  pub shares : SharesExactly block list
+  pub put : PutsWhereTold old new (build.out ++ codes ".net") (list_text list) answer
 
 -- The netlist is put whole, and the text is its summary.
 abbrev pub IsBuilt : List (List ℕ) → Option Files → Option Files → Option Files → List ℕ → Type 0
 IsBuilt words held old new text =
-    (build : Build) × (entry : Entry) × (block : Block) × PutsNetlist words held old new build entry block (Ok tt) × (text ≡ summary_text (list_of block))
+    (build : Build) × (entry : Entry) × (block : Block) × (list : NetList) × PutsNetlist words held old new build entry block list (Ok tt) × (text ≡ summary_text list)
 
 -- The fault stands in the entry, nothing is put, and the text is the fault's line.
 abbrev pub IsFaulted : List (List ℕ) → Option Files → Option Files → Option Files → Fault → List ℕ → Type 0
@@ -41,7 +45,8 @@ IsUnread words old new text = (build : Build) × IsBuild words build × (new ≡
 -- A prefix of the netlist is put, and the text names its file.
 abbrev pub IsUnwritten : List (List ℕ) → Option Files → Option Files → Option Files → List ℕ → Type 0
 IsUnwritten words held old new text =
-    (build : Build) × (entry : Entry) × (block : Block) × PutsNetlist words held old new build entry block (Err tray_errors.Failed) × (text ≡ write_fault_text (build.out ++ codes ".net"))
+    (build : Build) × (entry : Entry) × (block : Block) × (list : NetList) × PutsNetlist words held old new build entry block list (Err tray_errors.Failed)
+    × (text ≡ write_fault_text (build.out ++ codes ".net"))
 
 -- The words are no job, nothing is put, and the text is the usage.
 abbrev pub IsUsage : List (List ℕ) → Option Files → Option Files → List ℕ → Type 0

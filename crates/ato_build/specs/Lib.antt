@@ -2,8 +2,14 @@ pub mod Headline
 pub mod Words
 pub mod PlainNames
 pub mod Entry
+pub mod LeastEquivalence
+pub mod FirstPoints
 pub mod FirstNets
 pub mod FirstBlock
+pub mod FirstJoins
+pub mod FirstGroups
+pub mod ClassNumbers
+pub mod Flooding
 pub mod Netlists
 pub mod Texts
 pub mod Printing

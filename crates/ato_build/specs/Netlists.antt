@@ -41,7 +41,3 @@ nets_text comps code (net ∷ nets) = net_text comps code net ++ nets_text comps
 unfoldable pub list_text : NetList → List ℕ
 list_text list = codes "(export (version \"ato-1\")\n  (components\n" ++ (flat_map comp_text list.comps
     ++ (codes "  )\n  (nets\n" ++ (nets_text list.comps 1 list.nets ++ codes "  )\n)\n")))
-
--- each pin's part is there
-abbrev pub HasParts : NetList → Type 0
-HasParts list = All (λ net. All (λ pin. pin.comp < length list.comps) net.pins) list.nets

@@ -6,6 +6,7 @@ ghost use Rattle.ato_lexer.specs.declared.first_form.Block.{Block};
 ghost use Rattle.ato_build.specs.Answers.{IsAnswer};
 ghost use Rattle.ato_build.specs.Causes.{HasStatus, CountsReads};
 ghost use Rattle.ato_build.specs.Entry.{Entry, Whole, HasEntry, Gives, source_limit};
+ghost use Rattle.ato_build.specs.FirstPoints.{AreKnown};
 ghost use Rattle.ato_build.specs.Headline.{Means};
 ghost use Rattle.ato_build.specs.Texts.{fault_text, said_text, LiesWithin, read_fault_text, usage_text};
 ghost use Rattle.ato_build.specs.Words.{IsBuild, texts};
@@ -45,6 +46,7 @@ fn put_netlist<T: Tray>(
     block: &Block,
     tray: &mut T,
 ) -> Result<Answer, NoMemory>
+    requires { AreKnown block.now }
     ensures means { (words : List (List ℕ)) → (held : Option Files) → (entry : Entry) → IsBuild words build.now → HasEntry held build.now.file entry → Gives build.now entry block.now
         → IsAnswer words held (T.files tray.old) (T.files tray.new) result }
     ensures was_read { HasStatus Status.ReadFault result → ⊥ }

@@ -1,14 +1,45 @@
-ghost use Rattle.std.specs.Prelude.{◌≡◌, ◌++◌, ◌≤◌, IfOk, List, ℕ, Option, All, length, slice_range};
+ghost use Rattle.std.specs.Prelude.{◌≡◌, ◌∷◌, ◌++◌, [], IfOk, List, ℕ, Option, All};
 ghost use Rattle.std.specs.Str.{IsAscii};
 ghost use Rattle.ato_base.specs.declared.places.FileId.{FileId};
 ghost use Rattle.ato_lexer.specs.declared.first_form.Block.{Block};
 ghost use Rattle.ato_lexer.specs.FirstForm.{IsFile};
 ghost use Rattle.ato_lexer.specs.FirstTokens.{AreTokens};
-ghost use Rattle.ato_build.specs.FirstBlock.{IsWithin, spelled_text, spelled_line, spelled_lines};
+ghost use Rattle.ato_build.specs.FirstBlock.{IsWithin, spelled_text, between, end_of, closed, keyword_step, mark_step, text_step, kind_step, tokens_read};
 
-use ato_base::{Keyword, List, NoMemory, Span, Text, Token, TokenKind};
-use ato_lexer::{Block, Line};
+use ato_base::{Keyword, List, Mark, NoMemory, Span, Text, Token, TokenKind};
+use ato_lexer::{Block, End, Line, Point};
 use std::alloc::Global;
+
+/// What the next name or number of a line is.
+#[derive(Clone, Copy, Debug, PartialEq, Eq)]
+pub(crate) enum Opening {
+    /// A name that some line declares.
+    Bare,
+    /// The name of a signal.
+    Signal,
+    /// The label of a pin.
+    Pin,
+}
+
+/// What was read of a file so far: its lines, and the ends of the line that is being read.
+#[derive(Debug, Drop)]
+pub(crate) struct Reading {
+    pub opening: Opening,
+    pub left: Option<End>,
+    pub right: Option<End>,
+    pub lines: List<Line>,
+}
+
+fn between(lines: List<Line>) -> Reading
+    ensures { result ≡ between lines }
+{
+    Reading {
+        opening: Opening::Bare,
+        left: None,
+        right: None,
+        lines,
+    }
+}
 
 /// The text of ASCII bytes.
 fn ascii_text(alloc: Global, bytes: &[u8]) -> Result<Text, NoMemory>
@@ -30,44 +61,145 @@ fn spelled_text(alloc: Global, source: &[u8], at: Span) -> Result<Text, NoMemory
     ascii_text(alloc, &source[at.start as usize..at.end as usize])
 }
 
-/// The line that begins with a token of this kind, if one does, where the next token stands here.
-fn spelled_line(
-    alloc: Global,
-    source: &[u8],
-    kind: TokenKind,
-    next: Span,
-) -> Result<Option<Line>, NoMemory>
-    requires ascii { IsAscii source.now }
-    requires within { IsWithin source.now next }
-    ensures { IfOk result (λ line. line ≡ spelled_line source.now kind next) }
+fn end_of(opening: Opening, text: Text) -> End
+    ensures { result ≡ end_of opening text }
 {
-    match kind {
-        TokenKind::Keyword(Keyword::Pass) => Ok(Some(Line::Pass)),
-        TokenKind::Keyword(Keyword::Signal) => {
-            Ok(Some(Line::Signal(spelled_text(alloc, source, next)?)))
-        }
-        TokenKind::Keyword(Keyword::Pin) => {
-            Ok(Some(Line::Pin(spelled_text(alloc, source, next)?)))
-        }
-        _ => Ok(None),
+    match opening {
+        Opening::Bare => End::Name(text),
+        Opening::Signal => End::Declared(Point::Signal(text)),
+        Opening::Pin => End::Declared(Point::Pin(text)),
     }
 }
 
-/// The lines that the tokens spell.
-fn spelled_lines(alloc: Global, source: &[u8], tokens: &[Token]) -> Result<List<Line>, NoMemory>
-    requires ascii { IsAscii source.now }
-    requires within { All (λ token. IsWithin source.now token.at) tokens.now }
-    ensures { IfOk result (λ lines. lines ≡ spelled_lines source.now TokenKind.End tokens.now) }
+/// The lines after one whose ends are these.
+fn closed(left: Option<End>, right: Option<End>, lines: List<Line>) -> Result<List<Line>, NoMemory>
+    ensures { IfOk result (λ after. after ≡ closed left right lines) }
 {
-    let mut lines = List::new(alloc);
-    let mut before = TokenKind::End;
-    for token in tokens {
-        if let Some(line) = spelled_line(alloc, source, before, token.at)? {
-            lines.push(line)?;
-        }
-        before = token.kind;
+    let mut lines = lines;
+    match left {
+        None => match right {
+            None => {}
+            Some(end) => match end {
+                End::Name(_) => {}
+                End::Declared(point) => lines.push(Line::Declaration(point))?,
+            },
+        },
+        Some(left) => match right {
+            None => {}
+            Some(right) => lines.push(Line::Join(left, right))?,
+        },
     }
     Ok(lines)
+}
+
+fn keyword_step(reading: Reading, keyword: Keyword) -> Result<Reading, NoMemory>
+    ensures { IfOk result (λ after. after ≡ keyword_step reading keyword) }
+{
+    let Reading {
+        opening: _,
+        left,
+        right: _,
+        mut lines,
+    } = reading;
+    match keyword {
+        Keyword::Pass => {
+            lines.push(Line::Pass)?;
+            Ok(between(lines))
+        }
+        Keyword::Signal => Ok(Reading {
+            opening: Opening::Signal,
+            left,
+            right: None,
+            lines,
+        }),
+        Keyword::Pin => Ok(Reading {
+            opening: Opening::Pin,
+            left,
+            right: None,
+            lines,
+        }),
+        _ => Ok(between(lines)),
+    }
+}
+
+fn mark_step(reading: Reading, mark: Mark) -> Reading
+    ensures { result ≡ mark_step reading mark }
+{
+    let Reading {
+        opening: _,
+        left: _,
+        right,
+        lines,
+    } = reading;
+    match mark {
+        Mark::Tilde => Reading {
+            opening: Opening::Bare,
+            left: right,
+            right: None,
+            lines,
+        },
+        _ => between(lines),
+    }
+}
+
+fn text_step(reading: Reading, text: Text) -> Reading
+    ensures { result ≡ text_step reading text }
+{
+    let Reading {
+        opening,
+        left,
+        right: _,
+        lines,
+    } = reading;
+    Reading {
+        opening: Opening::Bare,
+        left,
+        right: Some(end_of(opening, text)),
+        lines,
+    }
+}
+
+fn newline_step(reading: Reading) -> Result<Reading, NoMemory>
+    ensures { IfOk result (λ after. after ≡ between (closed reading.left reading.right reading.lines)) }
+{
+    let Reading {
+        opening: _,
+        left,
+        right,
+        lines,
+    } = reading;
+    Ok(between(closed(left, right, lines)?))
+}
+
+/// What is read after one more token.
+fn step(alloc: Global, source: &[u8], reading: Reading, token: Token) -> Result<Reading, NoMemory>
+    requires ascii { IsAscii source.now }
+    requires within { IsWithin source.now token.at }
+    ensures { IfOk result (λ after. after ≡ kind_step source.now reading token.kind token.at) }
+{
+    match token.kind {
+        TokenKind::Keyword(keyword) => keyword_step(reading, keyword),
+        TokenKind::Mark(mark) => Ok(mark_step(reading, mark)),
+        TokenKind::Name(_) => Ok(text_step(reading, spelled_text(alloc, source, token.at)?)),
+        TokenKind::Number { .. } => {
+            Ok(text_step(reading, spelled_text(alloc, source, token.at)?))
+        }
+        TokenKind::Newline => newline_step(reading),
+        _ => Ok(between(reading.lines)),
+    }
+}
+
+/// What is read of the tokens.
+fn read_tokens(alloc: Global, source: &[u8], tokens: &[Token]) -> Result<Reading, NoMemory>
+    requires ascii { IsAscii source.now }
+    requires within { All (λ token. IsWithin source.now token.at) tokens.now }
+    ensures { IfOk result (λ after. after ≡ tokens_read source.now (between []) tokens.now) }
+{
+    let mut reading = between(List::new(alloc));
+    for token in tokens {
+        reading = step(alloc, source, reading, *token)?;
+    }
+    Ok(reading)
 }
 
 /// The block that the tokens of a file spell, if it is not empty.
@@ -82,8 +214,7 @@ pub(crate) fn read_block(
     if tokens.len() < 2 {
         return Ok(None);
     }
-    Ok(Some(Block {
-        name: spelled_text(alloc, source, tokens[1].at)?,
-        lines: spelled_lines(alloc, source, tokens)?,
-    }))
+    let name = spelled_text(alloc, source, tokens[1].at)?;
+    let Reading { lines, .. } = read_tokens(alloc, source, tokens)?;
+    Ok(Some(Block { name, lines }))
 }

@@ -1,58 +1,92 @@
-ghost use Rattle.std.specs.Prelude.{◌≡◌, IfOk, map, string_bytes};
-ghost use Rattle.ato_build.specs.FirstNets.{mentions, distinct, net_of, comps_of, list_of};
+ghost use Rattle.std.specs.Prelude.{◌≡◌, ◌+◌, ◌<◌, All, IfOk, length, map};
+ghost use Rattle.ato_build.specs.FirstPoints.{AreJoined, AreKnown, IsJoinedByLine, pins_of};
+ghost use Rattle.ato_build.specs.LeastEquivalence.{IsLeastEquivalence};
+ghost use Rattle.ato_build.specs.FirstGroups.{class_name, group_net, label_at};
+ghost use Rattle.ato_build.specs.FirstNets.{comps_of, net_pin, IsNetList, SharesExactly};
 
+use crate::classes::class_numbers;
+use crate::first_groups::groups_of;
+use crate::first_points::{Points, joins_of, points_of};
 use ato_base::{Comp, List, Net, NetList, NetPin, NoMemory, Text};
-use ato_lexer::{Block, Line};
-use indexmap::IndexSet;
+use ato_lexer::Block;
 use std::alloc::Global;
 
-/// The labels of the pins that the lines mention, each once, in the order of the first mentions.
-fn pins_of(alloc: Global, lines: &[Line]) -> Result<IndexSet<String>, NoMemory>
-    ensures { IfOk result (λ pins. map string_bytes pins.keys ≡ distinct (mentions lines.now)) }
+/// The name of a net with this first pin: the first signal that is joined with it, or the pin's own.
+fn class_name(alloc: Global, points: &Points, of: &[usize], pin: usize) -> Result<Text, NoMemory>
+    requires size { length of.now ≡ length points.now.signals + length points.now.pins }
+    requires pin { pin < length points.now.pins }
+    ensures { IfOk result (λ name. name ≡ class_name points.now of.now pin) }
 {
-    let mut pins = IndexSet::new(alloc);
-    for line in lines {
-        match line {
-            Line::Pass => {}
-            Line::Signal(_) => {}
-            Line::Pin(label) => {
-                pins.insert(String::from_str(alloc, label.as_str())?)?;
-            }
-        }
+    let signals = points.signals.len();
+    let class = of[signals + pin];
+    if class < signals {
+        return Text::copy(alloc, points.signals.text(class));
+    }
+    let mut name = Text::copy(alloc, ":")?;
+    name.push_str(points.pins.text(pin))?;
+    Ok(name)
+}
+
+fn net_pin(alloc: Global, points: &Points, pin: usize) -> Result<NetPin, NoMemory>
+    requires { pin < length points.now.pins }
+    ensures { IfOk result (λ made. made ≡ net_pin (label_at points.now pin)) }
+{
+    Ok(NetPin {
+        comp: 0,
+        label: Text::copy(alloc, points.pins.text(pin))?,
+    })
+}
+
+fn net_pins(alloc: Global, points: &Points, group: &[usize]) -> Result<List<NetPin>, NoMemory>
+    requires { All (λ pin. pin < length points.now.pins) group.now }
+    ensures { IfOk result (λ pins. pins ≡ map (λ pin. net_pin (label_at points.now pin)) group.now) }
+{
+    let mut pins = List::new(alloc);
+    for pin in group {
+        pins.push(net_pin(alloc, points, *pin)?)?;
     }
     Ok(pins)
 }
 
-/// The net of a pin of the root.
-fn net_of(alloc: Global, label: &str) -> Result<Net, NoMemory>
-    ensures { IfOk result (λ net. net ≡ net_of label.now) }
+/// The net of a group of pins.
+fn group_net(alloc: Global, points: &Points, of: &[usize], group: &[usize]) -> Result<Net, NoMemory>
+    requires size { length of.now ≡ length points.now.signals + length points.now.pins }
+    requires pins { All (λ pin. pin < length points.now.pins) group.now }
+    ensures { IfOk result (λ net. net ≡ group_net points.now of.now group.now) }
 {
-    let mut name = Text::copy(alloc, ":")?;
-    name.push_str(label)?;
-    let mut pins = List::new(alloc);
-    pins.push(NetPin {
-        comp: 0,
-        label: Text::copy(alloc, label)?,
-    })?;
-    Ok(Net { name, pins })
+    let name = match group {
+        [] => Text::new(alloc),
+        [first, ..] => class_name(alloc, points, of, *first)?,
+    };
+    Ok(Net {
+        name,
+        pins: net_pins(alloc, points, group)?,
+    })
 }
 
-fn nets_of(alloc: Global, labels: &[String]) -> Result<List<Net>, NoMemory>
-    ensures { IfOk result (λ nets. nets ≡ map net_of (map string_bytes labels.now)) }
+fn nets_of(
+    alloc: Global,
+    points: &Points,
+    of: &[usize],
+    groups: &[List<usize>],
+) -> Result<List<Net>, NoMemory>
+    requires size { length of.now ≡ length points.now.signals + length points.now.pins }
+    requires pins { All (λ group. All (λ pin. pin < length points.now.pins) group) groups.now }
+    ensures { IfOk result (λ nets. nets ≡ map (group_net points.now of.now) groups.now) }
 {
     let mut nets = List::new(alloc);
-    for label in labels {
-        nets.push(net_of(alloc, label.as_str())?)?;
+    for group in groups {
+        nets.push(group_net(alloc, points, of, group.as_slice())?)?;
     }
     Ok(nets)
 }
 
 /// The block as the one part, where it has a pin.
-fn comps_of(alloc: Global, block: &Block, labels: &[String]) -> Result<List<Comp>, NoMemory>
-    ensures { IfOk result (λ comps. comps ≡ comps_of block.now (map string_bytes labels.now)) }
+fn comps_of(alloc: Global, block: &Block, points: &Points) -> Result<List<Comp>, NoMemory>
+    ensures { IfOk result (λ comps. comps ≡ comps_of block.now points.now.pins) }
 {
     let mut comps = List::new(alloc);
-    if labels.len() > 0 {
+    if points.pins.len() > 0 {
         comps.push(Comp {
             designator: Text::copy(alloc, "U1")?,
             value: Text::copy(alloc, block.name.as_str())?,
@@ -63,14 +97,23 @@ fn comps_of(alloc: Global, block: &Block, labels: &[String]) -> Result<List<Comp
     Ok(comps)
 }
 
-/// The net list of a block of the first form: each pin is a net of its own.
+/// The net list of a block of the first form: its nets are the classes of joined pins.
+/// Being joined is the least equivalence that holds the joins of the lines.
 pub(crate) fn list_of(alloc: Global, block: &Block) -> Result<NetList, NoMemory>
-    ensures { IfOk result (λ list. list ≡ list_of block.now) }
+    requires { AreKnown block.now }
+    ensures list { IfOk result (IsNetList block.now) }
+    ensures shares { IfOk result (SharesExactly block.now) }
+    ensures equivalence { IsLeastEquivalence (IsJoinedByLine block.now) (AreJoined block.now) }
 {
-    let pins = pins_of(alloc, block.lines.as_slice())?;
-    let labels = pins.as_slice();
+    let lines = block.lines.as_slice();
+    let points = points_of(alloc, lines)?;
+    let joins = joins_of(alloc, &points, lines)?;
+    let signals = points.signals.len();
+    let pins = points.pins.len();
+    let of = class_numbers(alloc, signals + pins, &joins)?;
+    let groups = groups_of(alloc, &of, signals, pins)?;
     Ok(NetList {
-        comps: comps_of(alloc, block, labels)?,
-        nets: nets_of(alloc, labels)?,
+        comps: comps_of(alloc, block, &points)?,
+        nets: nets_of(alloc, &points, &of, groups.as_slice())?,
     })
 }

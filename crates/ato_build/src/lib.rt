@@ -7,9 +7,12 @@
 
 mod answer;
 mod build;
+mod classes;
 mod entry;
 mod first_block;
+mod first_groups;
 mod first_nets;
+mod first_points;
 mod netlists;
 mod plain_names;
 mod printing;
@@ -17,6 +20,7 @@ mod running;
 mod status;
 #[cfg(test)]
 mod tests;
+mod text_set;
 mod texts;
 mod words;
 

@@ -42,27 +42,92 @@ fn built(alloc: Global, source: &[u8], line: &str) -> Result<(u8, SureTray, MemS
     Ok((status.code(), tray, sink))
 }
 
+/// A netlist of one part with these lines of nets.
+fn netlist_of(alloc: Global, nets: &str) -> Result<String, NoMemory> {
+    let comp = "    (comp (ref \"U1\") (value \"E\") (footprint \"\") (path \"\"))\n";
+    Ok(format!(in alloc;
+        "(export (version \"ato-1\")\n  (components\n{comp}  )\n  (nets\n{nets}  )\n)\n"
+    )?)
+}
+
 #[test]
-fn builds_a_component_of_pins(rt: HostRuntime) -> Result<(), Fail> {
-    let netlists = [
-        (
-            "component E:\n    pass\n",
-            "result built\nnets 0\nparts 0\n",
-            "(export (version \"ato-1\")\n  (components\n  )\n  (nets\n  )\n)\n",
-        ),
-        (
-            "component E:\n    pin 3\n    signal s\n    pin A_1\n    pass\n    pin 3\n    pin 0\n",
-            "result built\nnets 3\nparts 1\n",
-            "(export (version \"ato-1\")\n  (components\n    (comp (ref \"U1\") (value \"E\") (footprint \"\") (path \"\"))\n  )\n  (nets\n    (net (code \"1\") (name \":3\")\n      (node (ref \"U1\") (pin \"3\"))\n    )\n    (net (code \"2\") (name \":A_1\")\n      (node (ref \"U1\") (pin \"A_1\"))\n    )\n    (net (code \"3\") (name \":0\")\n      (node (ref \"U1\") (pin \"0\"))\n    )\n  )\n)\n",
-        ),
-    ];
-    for (source, printed, netlist) in netlists {
+fn a_component_without_pins_is_no_part(rt: HostRuntime) -> Result<(), Fail> {
+    let empty = "(export (version \"ato-1\")\n  (components\n  )\n  (nets\n  )\n)\n";
+    for source in [
+        "component E:\n    pass\n",
+        "component E:\n    signal a ~ signal b\n    b ~ a\n",
+    ] {
         let (code, tray, sink) = built(rt.alloc(), source.as_bytes(), "build main.ato:E cat.csv")?;
         assert_eq!(rt; code, 0);
-        assert_eq!(rt; sink.written(), printed.as_bytes());
+        assert_eq!(rt;
+            sink.written(),
+            b"result built\nnets 0\nparts 0\n".as_slice()
+        );
         assert!(rt;
             tray.get("out.net")
-                .is_some_and(|put| put == netlist.as_bytes())
+                .is_some_and(|put| put == empty.as_bytes())
+        );
+    }
+    Ok(())
+}
+
+const ALONE: &str =
+    "    (net (code \"1\") (name \":3\")\n      (node (ref \"U1\") (pin \"3\"))\n    )\n    (net (code \"2\") (name \":A_1\")\n      (node (ref \"U1\") (pin \"A_1\"))\n    )\n    (net (code \"3\") (name \":0\")\n      (node (ref \"U1\") (pin \"0\"))\n    )\n";
+
+const BY_SIGNAL: &str =
+    "    (net (code \"1\") (name \"a\")\n      (node (ref \"U1\") (pin \"1\"))\n      (node (ref \"U1\") (pin \"2\"))\n    )\n";
+
+const CHAIN: &str =
+    "    (net (code \"1\") (name \"b\")\n      (node (ref \"U1\") (pin \"5\"))\n      (node (ref \"U1\") (pin \"4\"))\n      (node (ref \"U1\") (pin \"7\"))\n    )\n    (net (code \"2\") (name \":9\")\n      (node (ref \"U1\") (pin \"9\"))\n      (node (ref \"U1\") (pin \"8\"))\n    )\n";
+
+const SAME_TEXT: &str =
+    "    (net (code \"1\") (name \":b\")\n      (node (ref \"U1\") (pin \"b\"))\n    )\n    (net (code \"2\") (name \"b\")\n      (node (ref \"U1\") (pin \"a\"))\n    )\n";
+
+const RING: &str =
+    "    (net (code \"1\") (name \":1\")\n      (node (ref \"U1\") (pin \"1\"))\n      (node (ref \"U1\") (pin \"2\"))\n      (node (ref \"U1\") (pin \"3\"))\n    )\n";
+
+const MERGED: &str =
+    "    (net (code \"1\") (name \"d\")\n      (node (ref \"U1\") (pin \"4\"))\n      (node (ref \"U1\") (pin \"3\"))\n    )\n";
+
+#[test]
+fn pins_share_a_net_where_they_are_joined(rt: HostRuntime) -> Result<(), Fail> {
+    for (source, nets) in [
+        (
+            "component E:\n    pin 3\n    signal s\n    pin A_1\n    pass\n    pin 3\n    pin 0\n",
+            ALONE,
+        ),
+        (
+            "component E:\n    signal a\n    a ~ pin 1\n    pin 2 ~ a\n",
+            BY_SIGNAL,
+        ),
+        (
+            "component E:\n    a ~ pin 1\n    pin 2 ~ pin 1\n    signal a\n",
+            BY_SIGNAL,
+        ),
+        (
+            "component E:\n    pin 5 ~ pin 4\n    pin 9\n    signal b\n    signal a ~ pin 4\n    b ~ a\n    signal z\n    pin 8 ~ pin 9\n    pin 7 ~ b\n",
+            CHAIN,
+        ),
+        (
+            "component E:\n    pin b ~ pin b\n    pin a ~ signal b\n",
+            SAME_TEXT,
+        ),
+        (
+            "component E:\n    pin 1 ~ pin 2\n    pin 2 ~ pin 3\n    pin 3 ~ pin 1\n    pin 1 ~ pin 2\n",
+            RING,
+        ),
+        (
+            "component E:\n    signal d ~ pin 4\n    signal c ~ pin 3\n    c ~ d\n",
+            MERGED,
+        ),
+    ] {
+        let (code, tray, _) = built(rt.alloc(), source.as_bytes(), "build main.ato:E cat.csv")?;
+        assert_eq!(rt; code, 0);
+        let netlist = netlist_of(rt.alloc(), nets)?;
+        assert!(rt;
+            tray.get("out.net")
+                .is_some_and(|put| put == netlist.as_bytes()),
+            "{source}"
         );
     }
     Ok(())
@@ -70,6 +135,7 @@ fn builds_a_component_of_pins(rt: HostRuntime) -> Result<(), Fail> {
 
 #[test]
 fn refuses_bad_input_and_puts_nothing(rt: HostRuntime) -> Result<(), Fail> {
+    let pins = "component T:\n    pin 1\n";
     let faults = [
         (
             "",
@@ -77,12 +143,12 @@ fn refuses_bad_input_and_puts_nothing(rt: HostRuntime) -> Result<(), Fail> {
             "fault F11 NameUnknown word 1\n",
         ),
         (
-            "component T:\n    pin 1\n",
+            pins,
             "build main.ato:U cat.csv",
             "fault F11 NameUnknown word 1\n",
         ),
         (
-            "component T:\n    pin 1\n",
+            pins,
             "build lost.ato:T cat.csv",
             "fault F8 FileMissing word 1\n",
         ),
@@ -92,19 +158,24 @@ fn refuses_bad_input_and_puts_nothing(rt: HostRuntime) -> Result<(), Fail> {
             "fault F6 Syntax main.ato:2:1\n",
         ),
         (
-            "component T:\n    pin 1\n    a ~ pin 1\n",
+            "component T:\n    pin 1\n    a ~ b ~ pin 1\n",
             "build main.ato:T cat.csv",
             "fault F6 Syntax main.ato:3:1\n",
         ),
         (
-            "component T:\n    pin 1\n    pin 2",
+            "component T:\n    a ~ pin 1\n    pin 2",
             "build main.ato:T cat.csv",
             "fault F6 Syntax main.ato:3:1\n",
         ),
         (
-            "module T:\n    pin 1\n",
+            "component T:\n    signal a\n    a ~ pin 1\n    pin 2 ~ b\n    c ~ a\n",
             "build main.ato:T cat.csv",
-            "fault F6 Syntax main.ato:1:1\n",
+            "fault F15 NoSuchMember main.ato:4:1\n",
+        ),
+        (
+            "component T:\n    pin a ~ a\n",
+            "build main.ato:U cat.csv",
+            "fault F11 NameUnknown word 1\n",
         ),
     ];
     for (source, line, printed) in faults {

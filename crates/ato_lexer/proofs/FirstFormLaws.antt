@@ -1,11 +1,14 @@
 -- Laws of the first form: a text is at most one file, it is no file where a line is bad, and at most
--- one line is its first bad one, which begins within the text.
-use Rattle.std.proofs.Common.{◌≡◌, ℕ, ◌≤◌, List, [], ◌++◌, length, ap, sym, ◌∙◌, refl, arith, append_assoc, append-nil, length-append, inl, inr}
+-- one line is its first bad one, which begins within the text. A file is ASCII.
+use Rattle.std.proofs.Common.{◌≡◌, ℕ, ◌≤◌, List, [], ◌++◌, length, ap, sym, ◌∙◌, refl, arith, append_assoc, append-nil, length-append, subst, inl, inr}
 use Rattle.std.specs.Prelude.{Option, None, Some}
+use Rattle.std.specs.Str.{IsAscii}
+use Rattle.std.proofs.lemmas.Str.Ascii.{IsAscii-nil}
 use Rattle.ato_lexer.specs.FirstForm.{lined, head_text, lines_text, block_text, IsFile, IsBad, IsFront, NoLine}
 use Rattle.ato_lexer.specs.declared.first_form.Block.{Block}
 use Rattle.ato_lexer.specs.declared.first_form.Line.{Line}
 use Rattle.ato_lexer.proofs.FirstFormLemmas.{one_head, one_front, no_line_here, nonempty}
+use Rattle.ato_lexer.proofs.FirstFormAscii.{block_ascii}
 
 block_and_more : (block : Block) (rest : List ℕ) → block_text block ++ rest ≡ lined (head_text block.name) ++ (lines_text block.lines ++ rest)
 block_and_more block rest = append_assoc (lined (head_text block.name)) (lines_text block.lines) rest
@@ -59,3 +62,8 @@ one_bad bytes a b (inr (f, r, text, is_f, size, none, more)) (inr (g, s, text2, 
 pub bad_within : (bytes : List ℕ) (at : ℕ) → IsBad bytes at → at ≤ length bytes
 bad_within bytes at (inl h) = omega (arith, h.0)
 bad_within bytes at (inr (block, rest, text, is_front, size, none, more)) = omega (arith, size, ap length text, length-append (block_text block) rest)
+
+-- A file is ASCII.
+pub file_ascii : (source : List ℕ) (file : Option Block) → IsFile source file → IsAscii source
+file_ascii source None h = subst IsAscii (sym h) IsAscii-nil
+file_ascii source (Some block) h = subst IsAscii (sym h.0) (block_ascii block h.1)

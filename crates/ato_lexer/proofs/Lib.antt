@@ -1,5 +1,6 @@
 pub mod Bools
 pub mod FirstFormLemmas
+pub mod FirstFormAscii
 pub mod FirstFormLaws
 pub mod FormExamples
 pub mod Digits

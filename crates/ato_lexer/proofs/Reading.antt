@@ -1,45 +1,86 @@
 -- Lines that are read one by one, with their tokens.
 use Rattle.std.proofs.Common.{◌≡◌, ℕ, ◌+◌, ◌-◌, ◌<◌, Bool, true, false, ◌&&◌, List, [], ◌∷◌, ◌++◌, length, ap, sym, ◌∙◌, refl, arith, append_assoc, append-nil, length-append, subst, inl, inr}
 use Rattle.std.specs.Prelude.{if◌then◌else◌, All, codes, Some}
-use Rattle.std.proofs.lemmas.List.Elements.{All-head, All-tail, All-push, All-weaker}
+use Rattle.std.proofs.lemmas.List.Elements.{All-head, All-tail, All-push, All-append, All-take, All-drop, All-weaker}
 use Rattle.std.proofs.lemmas.List.Folds.{list_all-append}
+use Rattle.std.proofs.Math.Seq.{take-append_seam, drop-append_seam}
 use Rattle.ato_base.specs.declared.keywords.Keyword.TheVariants as words
+use Rattle.ato_base.specs.declared.keywords.Mark.TheVariants as marks
 use Rattle.ato_base.specs.declared.tokens.TokenKind.TheVariants as kinds
 use Rattle.ato_base.specs.declared.places.FileId.{FileId}
 use Rattle.ato_base.specs.declared.tokens.Token.{Token}
 use Rattle.ato_base.specs.declared.faults.Refusal.{Refusal}
 use Rattle.ato_base.specs.declared.faults.Refusal.TheVariants as refusals
-use Rattle.ato_lexer.specs.FirstForm.{lined, line_text, lines_text, head_text, block_text, is_line, is_ascii_name, NoLine, NoHead}
-use Rattle.ato_lexer.specs.FirstTokens.{Holds, Extends, line_names, line_tokens, lines_tokens, label_token, name_token, number_token, token, head_tokens, last_tokens, AreTokens, IsRefused, syntax_fault}
-use Rattle.ato_lexer.specs.Statements.{line_of, IsStatement, AreRead, AreRefused}
+use Rattle.ato_lexer.specs.FirstForm.{lined, end_text, line_text, lines_text, head_text, block_text, is_point, is_end, is_line, is_ascii_name, NoLine, NoHead}
+use Rattle.ato_lexer.specs.FirstTokens.{Holds, Extends, point_names, end_names, line_names, point_tokens, end_tokens, words_tokens, line_tokens, lines_tokens, label_token, name_token, number_token, token, head_tokens, last_tokens, AreTokens, IsRefused, syntax_fault}
+use Rattle.ato_lexer.specs.Statements.{point_of, end_of, line_of, IsPointText, IsEndText, IsStatement, words_text, AreRead, AreRefused}
+use Rattle.ato_lexer.specs.declared.first_form.Point.{Point}
+use Rattle.ato_lexer.specs.declared.first_form.Point.TheVariants.{Signal, Pin}
+use Rattle.ato_lexer.specs.declared.first_form.End.{End}
+use Rattle.ato_lexer.specs.declared.first_form.End.TheVariants.{Name, Declared}
 use Rattle.ato_lexer.specs.declared.first_form.Line.{Line}
-use Rattle.ato_lexer.specs.declared.first_form.Line.TheVariants.{Pass, Signal, Pin}
+use Rattle.ato_lexer.specs.declared.first_form.Line.TheVariants.{Pass, Declaration, Join}
 use Rattle.ato_lexer.specs.declared.first_form.Block.{Block}
-use Rattle.ato_lexer.specs.declared.lines.Statement.{Statement}
-use Rattle.ato_lexer.specs.declared.lines.Statement.TheVariants as statements
+use Rattle.ato_lexer.specs.declared.statements.PointText.{PointText}
+use Rattle.ato_lexer.specs.declared.statements.PointText.TheVariants as points
+use Rattle.ato_lexer.specs.declared.statements.EndText.{EndText}
+use Rattle.ato_lexer.specs.declared.statements.EndText.TheVariants as ends
+use Rattle.ato_lexer.specs.declared.statements.Statement.{Statement}
+use Rattle.ato_lexer.specs.declared.statements.Statement.TheVariants as statements
 use Rattle.ato_lexer.proofs.Numbers.{held_number, held_more}
+use Rattle.ato_lexer.proofs.FirstFormLemmas.{indented}
 
 -- A statement is a line of the form.
+
+point_is : (p : PointText) → IsPointText p → is_point (point_of p) ≡ true
+point_is (points.Signal name) h = h
+point_is (points.NamedPin label) h = rw h refl
+point_is (points.NumberedPin digits) h = rw h.0 h.1
+
+end_is : (e : EndText) → IsEndText e → is_end (end_of e) ≡ true
+end_is (ends.Name name) h = h
+end_is (ends.Declared point) h = point_is point h
+
 pub statement_line : (s : Statement) → IsStatement s → is_line (line_of s) ≡ true
 statement_line statements.Pass h = refl
-statement_line (statements.Signal name) h = h
-statement_line (statements.NamedPin label) h = rw h refl
-statement_line (statements.NumberedPin digits) h = rw h.0 h.1
+statement_line (statements.Declaration point) h = point_is point h
+statement_line (statements.Join left right) h = ap (λ b. b && is_end (end_of right)) (end_is left h.0) ∙ end_is right h.1
 
 -- A table that grows keeps the tokens of lines whose names it holds.
 
-label_more : (names more : List (List ℕ)) (file : FileId) (at : ℕ) (label : List ℕ) → All (Holds names) (line_names (Pin label)) → label_token (names ++ more) file at label ≡ label_token names file at label
+label_more : (names more : List (List ℕ)) (file : FileId) (at : ℕ) (label : List ℕ) → All (Holds names) (point_names (Pin label)) → label_token (names ++ more) file at label ≡ label_token names file at label
 label_more names more file at label h = by (is_ascii_name label) h
   where
     by : (b : Bool) → All (Holds names) (if b then label ∷ [] else []) → (if b then name_token (names ++ more) file at label else number_token file at label) ≡ (if b then name_token names file at label else number_token file at label)
     by true k = rw (held_number names more label (All-head (Holds names) label [] k)) refl
     by false k = refl
 
+point_more : (names more : List (List ℕ)) (file : FileId) (at : ℕ) (point : Point) → All (Holds names) (point_names point) → point_tokens (names ++ more) file at point ≡ point_tokens names file at point
+point_more names more file at (Signal name) h = rw (held_number names more name (All-head (Holds names) name [] h)) refl
+point_more names more file at (Pin label) h = ap (λ t. token file (kinds.Keyword words.Pin) at (at + 3) ∷ t ∷ []) (label_more names more file (at + 4) label h)
+
+end_more : (names more : List (List ℕ)) (file : FileId) (at : ℕ) (end : End) → All (Holds names) (end_names end) → end_tokens (names ++ more) file at end ≡ end_tokens names file at end
+end_more names more file at (Name name) h = rw (held_number names more name (All-head (Holds names) name [] h)) refl
+end_more names more file at (Declared point) h = point_more names more file at point h
+
+All-front : (P : List ℕ → Type 0) (xs ys : List (List ℕ)) → All P (xs ++ ys) → All P xs
+All-front P xs ys h = subst (All P) (take-append_seam xs ys) (All-take P (length xs) (xs ++ ys) h)
+
+All-back : (P : List ℕ → Type 0) (xs ys : List (List ℕ)) → All P (xs ++ ys) → All P ys
+All-back P xs ys h = subst (All P) (drop-append_seam xs ys) (All-drop P (length xs) (xs ++ ys) h)
+
+words_more : (names more : List (List ℕ)) (file : FileId) (at : ℕ) (line : Line) → All (Holds names) (line_names line) → words_tokens (names ++ more) file at line ≡ words_tokens names file at line
+words_more names more file at Pass h = refl
+words_more names more file at (Declaration point) h = point_more names more file (at + 4) point h
+words_more names more file at (Join left right) h =
+    let size : ℕ = length (end_text left) in
+    let mark : Token = token file (kinds.Mark marks.Tilde) (at + 5 + size) (at + 6 + size) in
+    ap (λ ts. ts ++ mark ∷ end_tokens (names ++ more) file (at + 7 + size) right) (end_more names more file (at + 4) left (All-front (Holds names) (end_names left) (end_names right) h))
+    ∙ ap (λ ts. end_tokens names file (at + 4) left ++ mark ∷ ts) (end_more names more file (at + 7 + size) right (All-back (Holds names) (end_names left) (end_names right) h))
+
 line_more : (names more : List (List ℕ)) (file : FileId) (at : ℕ) (line : Line) → All (Holds names) (line_names line) → line_tokens (names ++ more) file at line ≡ line_tokens names file at line
-line_more names more file at Pass h = refl
-line_more names more file at (Signal name) h = rw (held_number names more name (All-head (Holds names) name [] h)) refl
-line_more names more file at (Pin label) h =
-    ap (λ t. token file (kinds.Keyword words.Pin) (at + 4) (at + 7) ∷ t ∷ token file kinds.Newline (at + 8 + length label) (at + 8 + length label) ∷ []) (label_more names more file (at + 8) label h)
+line_more names more file at line h =
+    ap (λ ts. ts ++ token file kinds.Newline (at + length (line_text line)) (at + length (line_text line)) ∷ []) (words_more names more file at line h)
 
 lines_more : (names more : List (List ℕ)) (file : FileId) (at : ℕ) (lines : List Line) → All (λ line. All (Holds names) (line_names line)) lines → lines_tokens (names ++ more) file at lines ≡ lines_tokens names file at lines
 lines_more names more file at [] h = refl
@@ -53,6 +94,40 @@ head_more names more file name h = rw (held_number names more name h) refl
 
 all_more : (names more ts : List (List ℕ)) → All (Holds names) ts → All (Holds (names ++ more)) ts
 all_more names more ts h = All-weaker (Holds names) (Holds (names ++ more)) (held_more names more) ts h
+
+all_grown : (names new ts : List (List ℕ)) → Extends names new → All (Holds names) ts → All (Holds new) ts
+all_grown names new ts (extra, grown) h = subst (λ table. All (Holds table) ts) (sym grown) (all_more names extra ts h)
+
+end_grown : (names new : List (List ℕ)) (file : FileId) (at : ℕ) (end : End) → Extends names new → All (Holds names) (end_names end) → end_tokens names file at end ≡ end_tokens new file at end
+end_grown names new file at end (extra, grown) h = sym (ap (λ table. end_tokens table file at end) grown ∙ end_more names extra file at end h)
+
+-- The tokens of a join, whose ends are put one after the other into a table that grows.
+
+in_place : (at size stop : ℕ) → stop ≡ at + 4 + size → (stop + 1 ≡ at + 5 + size) × (stop + 2 ≡ at + 6 + size) × (stop + 3 ≡ at + 7 + size)
+in_place at size stop e = (omega arith, omega arith, omega arith)
+
+in_order : (before one mark two : List Token) → ((before ++ one) ++ mark) ++ two ≡ before ++ (one ++ (mark ++ two))
+in_order before one mark two = simp append_assoc
+
+pub join_pushed : (file : FileId) (at stop : ℕ) (left right : End) (names new : List (List ℕ)) (before one two after : List Token)
+    → stop ≡ at + 4 + length (end_text left) → Extends names new → All (Holds names) (end_names left)
+    → one ≡ before ++ end_tokens names file (at + 4) left → two ≡ one ++ token file (kinds.Mark marks.Tilde) (stop + 1) (stop + 2) ∷ []
+    → after ≡ two ++ end_tokens new file (stop + 3) right → after ≡ before ++ words_tokens new file at (Join left right)
+join_pushed file at stop left right names new before one two after place grown held first second third =
+    let size : ℕ = length (end_text left) in
+    let places = in_place at size stop place in
+    let mark : ℕ → ℕ → List Token = λ (a b : ℕ). token file (kinds.Mark marks.Tilde) a b ∷ [] in
+    let left_new : one ≡ before ++ end_tokens new file (at + 4) left = first ∙ ap (λ ts. before ++ ts) (end_grown names new file (at + 4) left grown held) in
+    let marks_are : two ≡ (before ++ end_tokens new file (at + 4) left) ++ mark (at + 5 + size) (at + 6 + size) =
+    second ∙ ap (λ ts. ts ++ mark (stop + 1) (stop + 2)) left_new
+    ∙ ap (λ a. (before ++ end_tokens new file (at + 4) left) ++ mark a (stop + 2)) places.0
+    ∙ ap (λ b. (before ++ end_tokens new file (at + 4) left) ++ mark (at + 5 + size) b) places.1 in
+    third ∙ ap (λ ts. ts ++ end_tokens new file (stop + 3) right) marks_are
+    ∙ ap (λ n. ((before ++ end_tokens new file (at + 4) left) ++ mark (at + 5 + size) (at + 6 + size)) ++ end_tokens new file n right) places.2
+    ∙ in_order before (end_tokens new file (at + 4) left) (mark (at + 5 + size) (at + 6 + size)) (end_tokens new file (at + 7 + size) right)
+
+pub join_held : (left right : End) (names new : List (List ℕ)) → Extends names new → All (Holds names) (end_names left) → All (Holds new) (end_names right) → All (Holds new) (line_names (Join left right))
+join_held left right names new grown one two = All-append (Holds new) (end_names left) (end_names right) (all_grown names new (end_names left) grown one) two
 
 -- One more line, behind those before.
 
@@ -127,13 +202,9 @@ empty_text (b ∷ bs) e = absurd (omega arith)
 
 -- the faults
 
-indented : (line : Line) (rest : List ℕ) → (after : List ℕ) × (lined (line_text line) ++ rest ≡ codes "    " ++ after)
-indented Pass rest = (codes "pass" ++ 10 ∷ rest, refl)
-indented (Signal name) rest = (lined (codes "signal " ++ name) ++ rest, refl)
-indented (Pin label) rest = (lined (codes "pin " ++ label) ++ rest, refl)
-
 no_indent : (bytes : List ℕ) → ((after : List ℕ) → bytes ≡ codes "    " ++ after → ⊥) → NoLine bytes
-no_indent bytes none line rest h e = let cut = indented line rest in none cut.0 (e ∙ cut.1)
+no_indent bytes none line rest h e =
+    none ((words_text line ++ 10 ∷ []) ++ rest) (e ∙ ap (λ t. lined t ++ rest) (indented line))
 
 pub bad_indent : (file : FileId) (at : ℕ) (name bytes : List ℕ) (r : Refusal) → is_ascii_name name ≡ true → at ≡ 12 + length name → ((after : List ℕ) → bytes ≡ codes "    " ++ after → ⊥)
     → r ≡ refusals.Fault (syntax_fault file at) → IsRefused (lined (head_text name) ++ bytes) file r

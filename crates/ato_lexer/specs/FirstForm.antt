@@ -3,7 +3,11 @@ use Rattle.std.specs.Prelude.{◌≡◌, ℕ, ◌<◌, Bool, true, false, ◌&&�
 use Rattle.std.specs.List.{list_all, flat_map}
 use Rattle.ato_base.specs.Keywords.{is_keyword}
 use Rattle.ato_lexer.specs.declared.first_form.Line.{Line}
-use Rattle.ato_lexer.specs.declared.first_form.Line.TheVariants.{Pass, Signal, Pin}
+use Rattle.ato_lexer.specs.declared.first_form.Line.TheVariants.{Pass, Declaration, Join}
+use Rattle.ato_lexer.specs.declared.first_form.Point.{Point}
+use Rattle.ato_lexer.specs.declared.first_form.Point.TheVariants.{Signal, Pin}
+use Rattle.ato_lexer.specs.declared.first_form.End.{End}
+use Rattle.ato_lexer.specs.declared.first_form.End.TheVariants.{Name, Declared}
 use Rattle.ato_lexer.specs.declared.first_form.Block.{Block}
 
 -- an ASCII digit
@@ -38,17 +42,35 @@ is_label text = is_ascii_name text || is_short_number text
 abbrev pub lined : List ℕ → List ℕ
 lined text = text ++ 10 ∷ []
 
+-- a point where it is declared
+abbrev pub point_text : Point → List ℕ
+point_text (Signal name) = codes "signal " ++ name
+point_text (Pin label) = codes "pin " ++ label
+
+-- an end of a join
+abbrev pub end_text : End → List ℕ
+end_text (Name name) = name
+end_text (Declared point) = point_text point
+
 -- a line of the block, without its line end
 abbrev pub line_text : Line → List ℕ
 line_text Pass = codes "    pass"
-line_text (Signal name) = codes "    signal " ++ name
-line_text (Pin label) = codes "    pin " ++ label
+line_text (Declaration point) = codes "    " ++ point_text point
+line_text (Join left right) = codes "    " ++ (end_text left ++ (codes " ~ " ++ end_text right))
 
--- The names and labels of the line are those of the form.
+-- The names and labels are those of the form.
+abbrev pub is_point : Point → Bool
+is_point (Signal name) = is_ascii_name name
+is_point (Pin label) = is_label label
+
+abbrev pub is_end : End → Bool
+is_end (Name name) = is_ascii_name name
+is_end (Declared point) = is_point point
+
 abbrev pub is_line : Line → Bool
 is_line Pass = true
-is_line (Signal name) = is_ascii_name name
-is_line (Pin label) = is_label label
+is_line (Declaration point) = is_point point
+is_line (Join left right) = is_end left && is_end right
 
 -- the first line, without its line end
 abbrev pub head_text : List ℕ → List ℕ

@@ -14,9 +14,13 @@ use Rattle.ato_base.specs.declared.faults.Fault.{Fault}
 use Rattle.ato_base.specs.declared.faults.FaultKind.TheVariants as faults
 use Rattle.ato_base.specs.declared.faults.Refusal.{Refusal}
 use Rattle.ato_base.specs.declared.faults.Refusal.TheVariants as refusals
-use Rattle.ato_lexer.specs.FirstForm.{is_ascii_name, line_text, lined, block_text, IsFile, IsBad}
+use Rattle.ato_lexer.specs.FirstForm.{is_ascii_name, end_text, line_text, lined, block_text, IsFile, IsBad}
 use Rattle.ato_lexer.specs.declared.first_form.Line.{Line}
-use Rattle.ato_lexer.specs.declared.first_form.Line.TheVariants.{Pass, Signal, Pin}
+use Rattle.ato_lexer.specs.declared.first_form.Line.TheVariants.{Pass, Declaration, Join}
+use Rattle.ato_lexer.specs.declared.first_form.Point.{Point}
+use Rattle.ato_lexer.specs.declared.first_form.Point.TheVariants.{Signal, Pin}
+use Rattle.ato_lexer.specs.declared.first_form.End.{End}
+use Rattle.ato_lexer.specs.declared.first_form.End.TheVariants.{Name, Declared}
 use Rattle.ato_lexer.specs.declared.first_form.Block.{Block}
 
 -- a token from one byte of the file up to another
@@ -44,19 +48,29 @@ number_token file at digits =
 abbrev pub label_token : List (List ℕ) → FileId → ℕ → List ℕ → Token
 label_token names file at label = if is_ascii_name label then name_token names file at label else number_token file at label
 
+-- the tokens of a point that is declared at a byte
+abbrev pub point_tokens : List (List ℕ) → FileId → ℕ → Point → List Token
+point_tokens names file at (Signal name) = token file (kinds.Keyword words.Signal) at (at + 6) ∷ name_token names file (at + 7) name ∷ []
+point_tokens names file at (Pin label) = token file (kinds.Keyword words.Pin) at (at + 3) ∷ label_token names file (at + 4) label ∷ []
+
+-- the tokens of an end of a join that stands at a byte
+abbrev pub end_tokens : List (List ℕ) → FileId → ℕ → End → List Token
+end_tokens names file at (Name name) = name_token names file at name ∷ []
+end_tokens names file at (Declared point) = point_tokens names file at point
+
+-- the tokens of a line that begins at a byte, without its line end
+abbrev pub words_tokens : List (List ℕ) → FileId → ℕ → Line → List Token
+words_tokens names file at Pass = token file (kinds.Keyword words.Pass) (at + 4) (at + 8) ∷ []
+words_tokens names file at (Declaration point) = point_tokens names file (at + 4) point
+words_tokens names file at (Join left right) =
+    end_tokens names file (at + 4) left
+    ++ (token file (kinds.Mark marks.Tilde) (at + 5 + length (end_text left)) (at + 6 + length (end_text left))
+    ∷ end_tokens names file (at + 7 + length (end_text left)) right)
+
 -- the tokens of a line that begins at a byte
 abbrev pub line_tokens : List (List ℕ) → FileId → ℕ → Line → List Token
-line_tokens names file at Pass =
-    token file (kinds.Keyword words.Pass) (at + 4) (at + 8)
-    ∷ token file kinds.Newline (at + 8) (at + 8) ∷ []
-line_tokens names file at (Signal name) =
-    token file (kinds.Keyword words.Signal) (at + 4) (at + 10)
-    ∷ name_token names file (at + 11) name
-    ∷ token file kinds.Newline (at + 11 + length name) (at + 11 + length name) ∷ []
-line_tokens names file at (Pin label) =
-    token file (kinds.Keyword words.Pin) (at + 4) (at + 7)
-    ∷ label_token names file (at + 8) label
-    ∷ token file kinds.Newline (at + 8 + length label) (at + 8 + length label) ∷ []
+line_tokens names file at line =
+    words_tokens names file at line ++ token file kinds.Newline (at + length (line_text line)) (at + length (line_text line)) ∷ []
 
 -- the tokens of lines, of which the first begins at a byte
 abbrev pub lines_tokens : List (List ℕ) → FileId → ℕ → List Line → List Token
@@ -82,11 +96,19 @@ file_tokens names file None = token file kinds.End 0 0 ∷ []
 file_tokens names file (Some block) =
     head_tokens names file block.name ++ (lines_tokens names file (12 + length block.name) block.lines ++ last_tokens file (length (block_text block)))
 
--- the names that a line mentions
+-- the names that are mentioned
+abbrev pub point_names : Point → List (List ℕ)
+point_names (Signal name) = name ∷ []
+point_names (Pin label) = if is_ascii_name label then label ∷ [] else []
+
+abbrev pub end_names : End → List (List ℕ)
+end_names (Name name) = name ∷ []
+end_names (Declared point) = point_names point
+
 abbrev pub line_names : Line → List (List ℕ)
 line_names Pass = []
-line_names (Signal name) = name ∷ []
-line_names (Pin label) = if is_ascii_name label then label ∷ [] else []
+line_names (Declaration point) = point_names point
+line_names (Join left right) = end_names left ++ end_names right
 
 -- The table holds the text.
 abbrev pub Holds : List (List ℕ) → List ℕ → Type 0

@@ -10,9 +10,10 @@ mod first_form;
 mod lexing;
 mod lines;
 mod names;
+mod statements;
 #[cfg(test)]
 mod tests;
 mod writing;
 
-pub use first_form::{Block, Line};
+pub use first_form::{Block, End, Line, Point};
 pub use lexing::lex;

@@ -1,35 +1,35 @@
-ghost use Rattle.std.specs.Prelude.{◌≡◌, ◌++◌, ◌==◌, MatchOption, false, true, ℕ, List};
+ghost use Rattle.std.specs.Prelude.{◌≡◌, ◌++◌, ◌∷◌, [], ◌==◌, MatchOption, false, true, ℕ, List};
 ghost use Rattle.std.specs.List.{list_any};
 ghost use Rattle.std.specs.Str.{IsAscii};
-ghost use Rattle.ato_lexer.specs.FirstForm.{lined, line_text, is_line, head_text, is_ascii_name, is_label, NoLine};
-ghost use Rattle.ato_lexer.specs.Statements.{line_of, IsStatement};
+ghost use Rattle.ato_lexer.specs.FirstForm.{lined, point_text, end_text, line_text, is_point, is_end, is_line, head_text, is_ascii_name, is_label, NoLine};
+ghost use Rattle.ato_lexer.specs.Statements.{point_of, end_of, line_of, IsPointText, IsEndText, IsStatement, with_tilde, words_text};
+ghost use Rattle.ato_lexer.specs.declared.first_form.Point.{Point};
+ghost use Rattle.ato_lexer.specs.declared.first_form.End.{End};
 ghost use Rattle.ato_lexer.specs.declared.first_form.Line.{Line};
 
 use crate::names::{is_ascii_name, is_short_number};
+use crate::statements::{EndText, PointText, Statement};
 
-/// A line of the block, with its name or label in the text of the file.
-#[derive(Clone, Copy, Debug)]
-pub(crate) enum Statement<'a> {
-    Pass,
-    Signal(&'a str),
-    /// A pin whose label is a name.
-    NamedPin(&'a str),
-    /// A pin whose label is a number.
-    NumberedPin(&'a [u8]),
-}
-
-/// The first line, and what comes after its line end.
+/// What stands before the first place of a byte, and what comes after it.
 #[tactic(auto, using(std::proofs::lemmas::List::Folds::list_any_more, crate::proofs::FirstFormLemmas::cut_at))]
-pub(crate) fn first_line(bytes: &[u8]) -> Option<(&[u8], &[u8])>
-    ensures { MatchOption result (list_any (λ b. b == 10) bytes.now ≡ false)
-        (λ cut. (bytes.now ≡ lined cut.0.now ++ cut.1.now) × (list_any (λ b. b == 10) cut.0.now ≡ false)) }
+fn cut(bytes: &[u8], mark: u8) -> Option<(&[u8], &[u8])>
+    ensures { MatchOption result (list_any (λ b. b == mark) bytes.now ≡ false)
+        (λ cut. (bytes.now ≡ (cut.0.now ++ mark ∷ []) ++ cut.1.now) × (list_any (λ b. b == mark) cut.0.now ≡ false)) }
 {
     for (at, byte) in bytes.iter().enumerate() {
-        if *byte == b'\n' {
+        if *byte == mark {
             return Some((&bytes[..at], &bytes[at + 1..]));
         }
     }
     None
+}
+
+/// The first line, and what comes after its line end.
+pub(crate) fn first_line(bytes: &[u8]) -> Option<(&[u8], &[u8])>
+    ensures { MatchOption result (list_any (λ b. b == 10) bytes.now ≡ false)
+        (λ cut. (bytes.now ≡ lined cut.0.now ++ cut.1.now) × (list_any (λ b. b == 10) cut.0.now ≡ false)) }
+{
+    cut(bytes, b'\n')
 }
 
 /// What stands after a prefix.
@@ -83,44 +83,109 @@ pub(crate) fn head_of(text: &[u8]) -> Option<&str>
     }
 }
 
-fn signal_of(name: &[u8]) -> Option<Statement<'_>>
-    ensures { MatchOption result (is_ascii_name name.now ≡ false) (λ found. (line_of found ≡ Line.Signal name.now) × IsStatement found) }
+fn signal_of(name: &[u8]) -> Option<PointText<'_>>
+    ensures { MatchOption result (is_ascii_name name.now ≡ false) (λ found. (point_of found ≡ Point.Signal name.now) × IsPointText found) }
 {
     match name_of(name) {
         None => None,
-        Some(name) => Some(Statement::Signal(name)),
+        Some(name) => Some(PointText::Signal(name)),
     }
 }
 
-fn pin_of(label: &[u8]) -> Option<Statement<'_>>
-    ensures { MatchOption result (is_label label.now ≡ false) (λ found. (line_of found ≡ Line.Pin label.now) × IsStatement found) }
+fn pin_of(label: &[u8]) -> Option<PointText<'_>>
+    ensures { MatchOption result (is_label label.now ≡ false) (λ found. (point_of found ≡ Point.Pin label.now) × IsPointText found) }
 {
     if let Some(name) = name_of(label) {
-        return Some(Statement::NamedPin(name));
+        return Some(PointText::NamedPin(name));
     }
     if is_short_number(label) {
-        Some(Statement::NumberedPin(label))
+        Some(PointText::NumberedPin(label))
     } else {
         None
     }
 }
 
+/// The point that a text declares.
+fn point_of(text: &[u8]) -> Option<PointText<'_>>
+    ensures { MatchOption result
+        ((point : Point) → is_point point ≡ true → text.now ≡ point_text point → ⊥)
+        (λ found. (text.now ≡ point_text (point_of found)) × IsPointText found) }
+{
+    if let Some(name) = after(text, b"signal ") {
+        return signal_of(name);
+    }
+    if let Some(label) = after(text, b"pin ") {
+        return pin_of(label);
+    }
+    None
+}
+
+/// The end of a join that a text is.
+fn end_of(text: &[u8]) -> Option<EndText<'_>>
+    ensures { MatchOption result
+        ((end : End) → is_end end ≡ true → text.now ≡ end_text end → ⊥)
+        (λ found. (text.now ≡ end_text (end_of found)) × IsEndText found) }
+{
+    if let Some(point) = point_of(text) {
+        return Some(EndText::Declared(point));
+    }
+    match name_of(text) {
+        None => None,
+        Some(name) => Some(EndText::Name(name)),
+    }
+}
+
+/// What stands before and after the first sign of a join, which has a blank at both sides.
+fn sides(text: &[u8]) -> Option<(&[u8], &[u8])>
+    ensures { MatchOption result
+        ((left right : List ℕ) → list_any (λ b. b == 126) left ≡ false → text.now ≡ with_tilde left right → ⊥)
+        (λ sides. (text.now ≡ with_tilde sides.0.now sides.1.now) × (list_any (λ b. b == 126) sides.0.now ≡ false)) }
+{
+    let (front, back) = cut(text, b'~')?;
+    let left = before(front, b" ")?;
+    let right = after(back, b" ")?;
+    Some((left, right))
+}
+
+/// The two ends that a text joins.
+fn join_of(text: &[u8]) -> Option<(EndText<'_>, EndText<'_>)>
+    ensures { MatchOption result
+        ((left right : End) → is_end left ≡ true → is_end right ≡ true → text.now ≡ with_tilde (end_text left) (end_text right) → ⊥)
+        (λ ends. (text.now ≡ with_tilde (end_text (end_of ends.0)) (end_text (end_of ends.1))) × IsEndText ends.0 × IsEndText ends.1) }
+{
+    let (left, right) = sides(text)?;
+    Some((end_of(left)?, end_of(right)?))
+}
+
+/// The statement that a line is, behind its indentation.
+fn words_of(text: &[u8]) -> Option<Statement<'_>>
+    ensures { MatchOption result
+        ((line : Line) → is_line line ≡ true → text.now ≡ words_text line → ⊥)
+        (λ found. (text.now ≡ words_text (line_of found)) × IsStatement found) }
+{
+    if text == b"pass".as_slice() {
+        return Some(Statement::Pass);
+    }
+    if let Some(point) = point_of(text) {
+        return Some(Statement::Declaration(point));
+    }
+    match join_of(text) {
+        None => None,
+        Some((left, right)) => Some(Statement::Join(left, right)),
+    }
+}
+
 /// The statement that a line is.
+#[tactic(auto, using(crate::proofs::FirstFormLemmas::indented))]
 fn statement_of(text: &[u8]) -> Option<Statement<'_>>
     ensures { MatchOption result
         ((line : Line) → is_line line ≡ true → text.now ≡ line_text line → ⊥)
         (λ found. (text.now ≡ line_text (line_of found)) × IsStatement found) }
 {
-    if text == b"    pass".as_slice() {
-        return Some(Statement::Pass);
+    match after(text, b"    ") {
+        None => None,
+        Some(words) => words_of(words),
     }
-    if let Some(name) = after(text, b"    signal ") {
-        return signal_of(name);
-    }
-    if let Some(label) = after(text, b"    pin ") {
-        return pin_of(label);
-    }
-    None
 }
 
 /// The statement at the front, and what comes after its line.

@@ -58,6 +58,47 @@ fn finds_the_first_bad_line(rt: HostRuntime) {
     assert_eq!(rt; no_text, Ok(Some(15)));
 }
 
+/// Where the first line of the file of one line begins that is not of the form, if there is one.
+fn bad_words(alloc: Global, words: &str) -> Result<Option<u32>, NoMemory> {
+    let text = format!(in alloc; "component Two:\n    {words}\n")?;
+    bad_line(alloc, text.as_bytes())
+}
+
+#[test]
+fn tells_what_a_join_is(rt: HostRuntime) {
+    let joins = [
+        "a ~ pin 1",
+        "pin 2 ~ a",
+        "signal a ~ pin 1",
+        "signal a ~ signal b",
+        "pin 1 ~ pin 2",
+        "a ~ b",
+        "pin out ~ pins",
+    ];
+    for words in joins {
+        assert_eq!(rt; bad_words(rt.alloc(), words), Ok(None), "at {words}");
+    }
+    let no_lines = [
+        "a~b",
+        "a ~",
+        "~ a",
+        "a ~ b ~ c",
+        "a  ~ b",
+        "a ~  b",
+        "1 ~ a",
+        "a ~ 1",
+        "pass ~ a",
+        "a ~ pass",
+        "signal ~ a",
+        "a",
+        "a ~ b ",
+        "a b ~ c",
+    ];
+    for words in no_lines {
+        assert_eq!(rt; bad_words(rt.alloc(), words), Ok(Some(15)), "at {words}");
+    }
+}
+
 fn token(kind: TokenKind, start: u32, end: u32) -> Token {
     let file = FileId(1);
     Token {
@@ -104,6 +145,40 @@ fn gives_the_tokens_with_their_places(rt: HostRuntime) -> Result<(), Fail> {
         token(TokenKind::Newline, 78, 78),
         token(TokenKind::Dedent, 79, 79),
         token(TokenKind::End, 79, 79),
+    ];
+    match lex(rt.alloc(), text, FileId(1), &mut names) {
+        Ok(tokens) => assert_eq!(rt; tokens.as_slice(), want.as_slice()),
+        Err(_) => assert!(rt; false),
+    }
+    Ok(())
+}
+
+#[test]
+fn gives_the_tokens_of_joins(rt: HostRuntime) -> Result<(), Fail> {
+    let mut names = NameTable::new(rt.alloc())?;
+    let text = b"component Two:\n    signal a\n    a ~ pin 1\n    pin 2 ~ signal b\n";
+    let want = [
+        token(TokenKind::Keyword(Keyword::Component), 0, 9),
+        token(TokenKind::Name(Name(3)), 10, 13),
+        token(TokenKind::Mark(Mark::Colon), 13, 14),
+        token(TokenKind::Newline, 14, 14),
+        token(TokenKind::Indent, 19, 19),
+        token(TokenKind::Keyword(Keyword::Signal), 19, 25),
+        token(TokenKind::Name(Name(4)), 26, 27),
+        token(TokenKind::Newline, 27, 27),
+        token(TokenKind::Name(Name(4)), 32, 33),
+        token(TokenKind::Mark(Mark::Tilde), 34, 35),
+        token(TokenKind::Keyword(Keyword::Pin), 36, 39),
+        number(Some(1), 40, 41),
+        token(TokenKind::Newline, 41, 41),
+        token(TokenKind::Keyword(Keyword::Pin), 46, 49),
+        number(Some(2), 50, 51),
+        token(TokenKind::Mark(Mark::Tilde), 52, 53),
+        token(TokenKind::Keyword(Keyword::Signal), 54, 60),
+        token(TokenKind::Name(Name(5)), 61, 62),
+        token(TokenKind::Newline, 62, 62),
+        token(TokenKind::Dedent, 63, 63),
+        token(TokenKind::End, 63, 63),
     ];
     match lex(rt.alloc(), text, FileId(1), &mut names) {
         Ok(tokens) => assert_eq!(rt; tokens.as_slice(), want.as_slice()),

@@ -1,11 +1,12 @@
-ghost use Rattle.std.specs.Prelude.{◌≡◌, ◌++◌, ◌+◌, ◌<◌, ◌^◌, [], ◌∷◌, length, OnOk, All, false, true};
+ghost use Rattle.std.specs.Prelude.{◌≡◌, ◌++◌, ◌+◌, ◌<◌, ◌^◌, [], ◌∷◌, length, OnOk, IfOk, All, false, true};
 ghost use Rattle.std.specs.List.{list_all};
-ghost use Rattle.ato_lexer.specs.FirstForm.{is_digit, line_text, head_text, is_ascii_name, is_short_number};
-ghost use Rattle.ato_lexer.specs.FirstTokens.{token, small_value, name_token, number_token, line_tokens, head_tokens, last_tokens, line_names, Holds, Extends};
+ghost use Rattle.ato_lexer.specs.FirstForm.{is_digit, point_text, end_text, line_text, is_ascii_name, is_short_number};
+ghost use Rattle.ato_lexer.specs.FirstTokens.{token, small_value, name_token, number_token, point_tokens, end_tokens, words_tokens, line_tokens, head_tokens, last_tokens, point_names, end_names, line_names, Holds, Extends};
 ghost use Rattle.ato_lexer.specs.declared.first_form.Line.{Line};
-ghost use Rattle.ato_lexer.specs.Statements.{line_of, IsStatement};
+ghost use Rattle.ato_lexer.specs.declared.first_form.Point.{Point};
+ghost use Rattle.ato_lexer.specs.Statements.{point_of, end_of, line_of, IsPointText, IsEndText, IsStatement};
 
-use crate::lines::Statement;
+use crate::statements::{EndText, PointText, Statement};
 use ato_base::{FileId, Keyword, List, Mark, NameTable, NoMemory, Span, Token, TokenKind};
 
 fn span(file: FileId, start: usize, end: usize) -> Span
@@ -38,20 +39,24 @@ pub(crate) fn push(
     })
 }
 
+/// Puts the token of a name behind the others, and gives the byte after the name.
 fn push_name(
     tokens: &mut List<Token>,
     names: &mut NameTable,
     file: FileId,
     at: usize,
     name: &str,
-) -> Result<(), NoMemory>
+) -> Result<usize, NoMemory>
     requires { at + length name.now < 2 ^ 32 }
+    ensures stop { IfOk result (λ stop. stop ≡ at + length name.now) }
     ensures pushed { OnOk result (tokens.new ≡ tokens.old ++ name_token names.new file at name.now ∷ []) }
     ensures held { OnOk result (Holds names.new name.now) }
     ensures names { Extends names.old names.new }
 {
     let number = names.intern(name)?;
-    push(tokens, file, TokenKind::Name(number), at, at + name.len())
+    let stop = at + name.len();
+    push(tokens, file, TokenKind::Name(number), at, stop)?;
+    Ok(stop)
 }
 
 /// The value of digits, where it is at most 65,535.
@@ -69,23 +74,26 @@ fn small_value(digits: &[u8]) -> Option<u16>
     Some(value as u16)
 }
 
+/// Puts the token of a number behind the others, and gives the byte after the number.
 fn push_number(
     tokens: &mut List<Token>,
     file: FileId,
     at: usize,
     digits: &[u8],
-) -> Result<(), NoMemory>
+) -> Result<usize, NoMemory>
     requires size { at + length digits.now < 2 ^ 32 }
     requires digits { is_short_number digits.now ≡ true }
-    ensures { OnOk result (tokens.new ≡ tokens.old ++ number_token file at digits.now ∷ []) }
+    ensures stop { IfOk result (λ stop. stop ≡ at + length digits.now) }
+    ensures pushed { OnOk result (tokens.new ≡ tokens.old ++ number_token file at digits.now ∷ []) }
 {
-    let end = at + digits.len();
+    let stop = at + digits.len();
     let kind = TokenKind::Number {
         whole: true,
         small: small_value(digits),
-        at: span(file, at, end),
+        at: span(file, at, stop),
     };
-    push(tokens, file, kind, at, end)
+    push(tokens, file, kind, at, stop)?;
+    Ok(stop)
 }
 
 fn push_keyword(
@@ -109,30 +117,21 @@ fn push_newline(tokens: &mut List<Token>, file: FileId, at: usize) -> Result<(),
     push(tokens, file, TokenKind::Newline, at, at)
 }
 
-fn push_pass(tokens: &mut List<Token>, file: FileId, at: usize) -> Result<(), NoMemory>
-    requires { at + length (line_text Line.Pass) < 2 ^ 32 }
-    ensures { OnOk result (tokens.new ≡ tokens.old ++ line_tokens [] file at Line.Pass) }
-{
-    push_keyword(tokens, file, Keyword::Pass, at + 4, at + 8)?;
-    push_newline(tokens, file, at + 8)
-}
-
 fn push_signal(
     tokens: &mut List<Token>,
     names: &mut NameTable,
     file: FileId,
     at: usize,
     name: &str,
-) -> Result<(), NoMemory>
-    requires { at + length (line_text (Line.Signal name.now)) < 2 ^ 32 }
-    ensures pushed { OnOk result (tokens.new ≡ tokens.old ++ line_tokens names.new file at (Line.Signal name.now)) }
+) -> Result<usize, NoMemory>
+    requires { at + length (point_text (Point.Signal name.now)) < 2 ^ 32 }
+    ensures stop { IfOk result (λ stop. stop ≡ at + length (point_text (Point.Signal name.now))) }
+    ensures pushed { OnOk result (tokens.new ≡ tokens.old ++ point_tokens names.new file at (Point.Signal name.now)) }
     ensures held { OnOk result (Holds names.new name.now) }
     ensures names { Extends names.old names.new }
 {
-    let start = at + 11;
-    push_keyword(tokens, file, Keyword::Signal, at + 4, at + 10)?;
-    push_name(tokens, names, file, start, name)?;
-    push_newline(tokens, file, start + name.len())
+    push_keyword(tokens, file, Keyword::Signal, at, at + 6)?;
+    push_name(tokens, names, file, at + 7, name)
 }
 
 fn push_named_pin(
@@ -141,17 +140,16 @@ fn push_named_pin(
     file: FileId,
     at: usize,
     label: &str,
-) -> Result<(), NoMemory>
-    requires size { at + length (line_text (Line.Pin label.now)) < 2 ^ 32 }
+) -> Result<usize, NoMemory>
+    requires size { at + length (point_text (Point.Pin label.now)) < 2 ^ 32 }
     requires label { is_ascii_name label.now ≡ true }
-    ensures pushed { OnOk result (tokens.new ≡ tokens.old ++ line_tokens names.new file at (Line.Pin label.now)) }
+    ensures stop { IfOk result (λ stop. stop ≡ at + length (point_text (Point.Pin label.now))) }
+    ensures pushed { OnOk result (tokens.new ≡ tokens.old ++ point_tokens names.new file at (Point.Pin label.now)) }
     ensures held { OnOk result (Holds names.new label.now) }
     ensures names { Extends names.old names.new }
 {
-    let start = at + 8;
-    push_keyword(tokens, file, Keyword::Pin, at + 4, at + 7)?;
-    push_name(tokens, names, file, start, label)?;
-    push_newline(tokens, file, start + label.len())
+    push_keyword(tokens, file, Keyword::Pin, at, at + 3)?;
+    push_name(tokens, names, file, at + 4, label)
 }
 
 fn push_numbered_pin(
@@ -159,16 +157,113 @@ fn push_numbered_pin(
     file: FileId,
     at: usize,
     digits: &[u8],
-) -> Result<(), NoMemory>
-    requires size { at + length (line_text (Line.Pin digits.now)) < 2 ^ 32 }
+) -> Result<usize, NoMemory>
+    requires size { at + length (point_text (Point.Pin digits.now)) < 2 ^ 32 }
     requires no_name { is_ascii_name digits.now ≡ false }
     requires digits { is_short_number digits.now ≡ true }
-    ensures { OnOk result (tokens.new ≡ tokens.old ++ line_tokens [] file at (Line.Pin digits.now)) }
+    ensures stop { IfOk result (λ stop. stop ≡ at + length (point_text (Point.Pin digits.now))) }
+    ensures pushed { OnOk result (tokens.new ≡ tokens.old ++ point_tokens [] file at (Point.Pin digits.now)) }
 {
-    let start = at + 8;
-    push_keyword(tokens, file, Keyword::Pin, at + 4, at + 7)?;
-    push_number(tokens, file, start, digits)?;
-    push_newline(tokens, file, start + digits.len())
+    push_keyword(tokens, file, Keyword::Pin, at, at + 3)?;
+    push_number(tokens, file, at + 4, digits)
+}
+
+/// Puts the tokens of a point that is declared at a byte of the file behind the others, and gives
+/// the byte after the point.
+fn push_point(
+    tokens: &mut List<Token>,
+    names: &mut NameTable,
+    file: FileId,
+    at: usize,
+    point: PointText,
+) -> Result<usize, NoMemory>
+    requires size { at + length (point_text (point_of point)) < 2 ^ 32 }
+    requires point { IsPointText point }
+    ensures stop { IfOk result (λ stop. stop ≡ at + length (point_text (point_of point.entry))) }
+    ensures pushed { OnOk result (tokens.new ≡ tokens.old ++ point_tokens names.new file at (point_of point.entry)) }
+    ensures held { OnOk result (All (Holds names.new) (point_names (point_of point.entry))) }
+    ensures names { Extends names.old names.new }
+{
+    match point {
+        PointText::Signal(name) => push_signal(tokens, names, file, at, name),
+        PointText::NamedPin(label) => push_named_pin(tokens, names, file, at, label),
+        PointText::NumberedPin(digits) => push_numbered_pin(tokens, file, at, digits),
+    }
+}
+
+/// Puts the tokens of an end of a join behind the others, and gives the byte after the end.
+fn push_end(
+    tokens: &mut List<Token>,
+    names: &mut NameTable,
+    file: FileId,
+    at: usize,
+    end: EndText,
+) -> Result<usize, NoMemory>
+    requires size { at + length (end_text (end_of end)) < 2 ^ 32 }
+    requires end { IsEndText end }
+    ensures stop { IfOk result (λ stop. stop ≡ at + length (end_text (end_of end.entry))) }
+    ensures pushed { OnOk result (tokens.new ≡ tokens.old ++ end_tokens names.new file at (end_of end.entry)) }
+    ensures held { OnOk result (All (Holds names.new) (end_names (end_of end.entry))) }
+    ensures names { Extends names.old names.new }
+{
+    match end {
+        EndText::Name(name) => push_name(tokens, names, file, at, name),
+        EndText::Declared(point) => push_point(tokens, names, file, at, point),
+    }
+}
+
+fn push_pass(tokens: &mut List<Token>, file: FileId, at: usize) -> Result<usize, NoMemory>
+    requires { at + 8 < 2 ^ 32 }
+    ensures stop { IfOk result (λ stop. stop ≡ at + 8) }
+    ensures pushed { OnOk result (tokens.new ≡ tokens.old ++ words_tokens [] file at Line.Pass) }
+{
+    push_keyword(tokens, file, Keyword::Pass, at + 4, at + 8)?;
+    Ok(at + 8)
+}
+
+fn push_join(
+    tokens: &mut List<Token>,
+    names: &mut NameTable,
+    file: FileId,
+    at: usize,
+    left: EndText,
+    right: EndText,
+) -> Result<usize, NoMemory>
+    requires size { at + length (line_text (Line.Join (end_of left) (end_of right))) < 2 ^ 32 }
+    requires left { IsEndText left }
+    requires right { IsEndText right }
+    ensures stop { IfOk result (λ stop. stop ≡ at + length (line_text (Line.Join (end_of left.entry) (end_of right.entry)))) }
+    ensures pushed { OnOk result (tokens.new ≡ tokens.old ++ words_tokens names.new file at (Line.Join (end_of left.entry) (end_of right.entry))) }
+    ensures held { OnOk result (All (Holds names.new) (line_names (Line.Join (end_of left.entry) (end_of right.entry)))) }
+    ensures names { Extends names.old names.new }
+{
+    let stop = push_end(tokens, names, file, at + 4, left)?;
+    let tilde = TokenKind::Mark(Mark::Tilde);
+    push(tokens, file, tilde, stop + 1, stop + 2)?;
+    push_end(tokens, names, file, stop + 3, right)
+}
+
+/// Puts the tokens of a line without its line end behind the others, and gives the byte of its line
+/// end.
+fn push_words(
+    tokens: &mut List<Token>,
+    names: &mut NameTable,
+    file: FileId,
+    at: usize,
+    statement: Statement,
+) -> Result<usize, NoMemory>
+    requires size { at + length (line_text (line_of statement)) < 2 ^ 32 }
+    requires statement { IsStatement statement }
+    ensures stop { IfOk result (λ stop. stop ≡ at + length (line_text (line_of statement.entry))) }
+    ensures pushed { OnOk result (tokens.new ≡ tokens.old ++ words_tokens names.new file at (line_of statement.entry)) }
+    ensures held { OnOk result (All (Holds names.new) (line_names (line_of statement.entry))) }
+    ensures names { Extends names.old names.new }
+{
+    match statement {
+        Statement::Pass => push_pass(tokens, file, at),
+        Statement::Declaration(point) => push_point(tokens, names, file, at + 4, point),
+        Statement::Join(left, right) => push_join(tokens, names, file, at, left, right),
+    }
 }
 
 /// Puts the tokens of a line that begins at a byte of the file behind the others.
@@ -185,12 +280,8 @@ pub(crate) fn push_statement(
     ensures held { OnOk result (All (Holds names.new) (line_names (line_of statement.entry))) }
     ensures names { Extends names.old names.new }
 {
-    match statement {
-        Statement::Pass => push_pass(tokens, file, at),
-        Statement::Signal(name) => push_signal(tokens, names, file, at, name),
-        Statement::NamedPin(label) => push_named_pin(tokens, names, file, at, label),
-        Statement::NumberedPin(digits) => push_numbered_pin(tokens, file, at, digits),
-    }
+    let stop = push_words(tokens, names, file, at, statement)?;
+    push_newline(tokens, file, stop)
 }
 
 /// Puts the tokens of the first line behind the others, with the indentation of the next.

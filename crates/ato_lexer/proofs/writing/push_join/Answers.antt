@@ -1,0 +1,18 @@
+use Rattle.std.proofs.lemmas.Result.{on_ok_weaker}
+use Rattle.ato_lexer.specs.Statements.{end_of}
+use Rattle.ato_lexer.proofs.Reading.{join_pushed, join_held}
+use Rattle.ato_lexer.proofs.writing.push_join.Goals as goal
+
+pub returns-clause-pushed : goal.returns-clause-pushed
+returns-clause-pushed c =
+    on_ok_weaker c.push_end-2.result
+    (join_pushed c.args.file c.args.at c.in_ok-stop.stop (end_of c.args.left) (end_of c.args.right) c.push_end.new.names c.push_end-2.new.names
+    c.args.tokens.now c.push_end.new.tokens c.push.new.tokens c.push_end-2.new.tokens
+    c.in_ok-stop.ensures.stop c.push_end-2.ensures.names c.in_ok-stop.ensures.held c.in_ok-stop.ensures.pushed c.in_ok-push.ensures)
+    c.push_end-2.ensures.pushed
+
+pub returns-clause-held : goal.returns-clause-held
+returns-clause-held c =
+    on_ok_weaker c.push_end-2.result
+    (join_held (end_of c.args.left) (end_of c.args.right) c.push_end.new.names c.push_end-2.new.names c.push_end-2.ensures.names c.in_ok-stop.ensures.held)
+    c.push_end-2.ensures.held
