@@ -1,6 +1,6 @@
 -- At most one block or fault comes of an entry, and what the headline says where the words are no job, a fault
 -- stands, or a block is given.
-use Rattle.std.proofs.Common.{◌≡◌, ℕ, Bool, true, false, ◌||◌, List, [], ◌∷◌, ◌++◌, length, inl, inr, sym, ◌∙◌, ap, refl, subst}
+use Rattle.std.proofs.Common.{◌≡◌, ℕ, Bool, true, false, ◌||◌, List, [], ◌∷◌, ◌++◌, length, inl, inr, sym, ◌∙◌, ap, refl, subst, arith}
 use Rattle.std.specs.List.{list_any}
 use Rattle.std.specs.Prelude.{Option, Some, None, IfSome, ◌⊎◌}
 use Rattle.std.specs.FinMap.{get}
@@ -12,6 +12,7 @@ use Rattle.ato_lexer.specs.declared.first_form.Block.{Block}
 use Rattle.ato_outside.specs.Files.{Files}
 use Rattle.ato_build.proofs.WordLaws.{one_build}
 use Rattle.ato_build.specs.Causes.{EndsOutside}
+use Rattle.ato_outside.specs.Causes.{Rose}
 use Rattle.ato_build.specs.Entry.{Entry, Missing, TooLong, Whole, HasEntry, Gives, Stands, LacksBlock, IsNamed, member_fault, entry_of, entry_file}
 use Rattle.ato_build.specs.FirstPoints.{AreKnown, IsUnknownAt, is_unknown, signals_of}
 use Rattle.ato_build.proofs.FirstNumberLemmas.{or_false, or_right}
@@ -129,3 +130,38 @@ built_where words (Some files) old new before now answers.ReadFault h = λ build
 built_where words (Some files) old new before now answers.WriteFault h = λ build block job gives. inr (inr (inr refl))
 built_where words (Some files) old new before now answers.Usage h = λ build block job gives. absurd (h.1.0 (tasks.Build build) job)
 built_where words (Some files) old new before now answers.NoMemory h = λ build block job gives. inr (inr (inl refl))
+
+-- A job without a fault is built, unless memory or something outside fails.
+pub job_where : (words : List (List ℕ)) (held old new : Option Files) (before now : Option (List ℕ)) (status : Status) → Headline words held old new before now status
+    → IfSome held (λ files. (build : Build) → IsBuild words build → ((f : Fault) → Stands build (entry_of (get files build.file)) f → ⊥) → (status ≡ answers.Built) ⊎ EndsOutside status)
+job_where words None old new before now status h = tt
+job_where words (Some files) old new before now answers.Built h = λ build job none. inl refl
+job_where words (Some files) old new before now (answers.Fault f) h = λ build job none.
+    absurd (none f (stands_here files h.1.0 build h.1.1 f (one_build words h.1.0 build h.1.2 job) h.1.3 h.1.4))
+job_where words (Some files) old new before now answers.ReadFault h = λ build job none. inr (inl refl)
+job_where words (Some files) old new before now answers.WriteFault h = λ build job none. inr (inr (inr refl))
+job_where words (Some files) old new before now answers.Usage h = λ build job none. absurd (h.1.0 (tasks.Build build) job)
+job_where words (Some files) old new before now answers.NoMemory h = λ build job none. inr (inr (inl refl))
+
+succeeds : (status : Status) → (status ≡ answers.Built) ⊎ EndsOutside status → (status ≡ answers.ReadFault → ⊥) → (status ≡ answers.WriteFault → ⊥) → (status ≡ answers.Built) ⊎ (status ≡ answers.NoMemory)
+succeeds status (inl built) read write = inl built
+succeeds status (inr (inl is)) read write = absurd (read is)
+succeeds status (inr (inr (inl is))) read write = inr is
+succeeds status (inr (inr (inr is))) read write = absurd (write is)
+
+neither : {A B : Type 0} → A ⊎ B → (A → ⊥) → (B → ⊥) → ⊥
+neither (inl a) f g = f a
+neither (inr b) f g = g b
+
+-- A job without a fault is built where nothing outside failed, unless memory runs out.
+pub complete : (Read Put Print : Type 0) (words : List (List ℕ)) (held old new : Option Files) (before now : Option (List ℕ)) (status : Status) → Headline words held old new before now status
+    → (status ≡ answers.ReadFault → Read) → (status ≡ answers.WriteFault → Put ⊎ Print)
+    → IfSome held (λ files. (build : Build) → IsBuild words build → ((f : Fault) → Stands build (entry_of (get files build.file)) f → ⊥)
+    → (Read → ⊥) → (Put → ⊥) → (Print → ⊥) → (status ≡ answers.Built) ⊎ (status ≡ answers.NoMemory))
+complete Read Put Print words None old new before now status h read write = tt
+complete Read Put Print words (Some files) old new before now status h read write = λ build job none reads puts prints.
+    succeeds status (job_where words (Some files) old new before now status h build job none) (λ is. reads (read is)) (λ is. neither (write is) puts prints)
+
+-- a count that stays at 0 did not rise
+pub never_rose : (before now : ℕ) → before ≡ 0 → now ≡ 0 → Rose before now → ⊥
+never_rose before now is also rose = let bad : Rose 0 0 = subst (λ a. Rose a 0) is (subst (λ b. Rose before b) also rose) in omega (arith, bad)

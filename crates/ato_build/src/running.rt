@@ -1,4 +1,4 @@
-ghost use Rattle.std.specs.Prelude.{◌≡◌, ◌<◌, ◌≤◌, ◌⊎◌, IfSome};
+ghost use Rattle.std.specs.Prelude.{◌≡◌, ◌≢◌, ◌<◌, ◌≤◌, ◌⊎◌, IfSome};
 ghost use Rattle.std.specs.FinMap.{get};
 ghost use Rattle.ato_base.specs.declared.faults.Fault.{Fault};
 ghost use Rattle.ato_base.specs.declared.faults.FaultKind.TheVariants as kinds;
@@ -59,6 +59,16 @@ pub fn run<S: Shelf, T: Tray, O: Sink>(
         → Stands build (entry_of (get files build.file)) f → (result ≡ Status.Fault f) ⊎ EndsOutside result) }
     ensures built_where { IfSome (S.files shelf.old) (λ files. (build : Build) (block : Block) → IsBuild (texts words.now.items) build
         → Gives build (entry_of (get files build.file)) block → (result ≡ Status.Built) ⊎ EndsOutside result) }
+
+    // Where no fault stands and nothing outside failed in this call, a job is done.
+    ensures complete { IfSome (S.files shelf.old) (λ files. (build : Build) → IsBuild (texts words.now.items) build
+        → ((f : Fault) → ¬ Stands build (entry_of (get files build.file)) f)
+        → ¬ Rose (S.faults shelf.old) (S.faults shelf.new) → ¬ Rose (T.faults tray.old) (T.faults tray.new) → ¬ Rose (O.faults out.old) (O.faults out.new)
+        → (result ≡ Status.Built) ⊎ (result ≡ Status.NoMemory)) }
+
+    // What never fails is never named.
+    ensures sure_shelf { ((s : S) → S.faults s ≡ 0) → result ≢ Status.ReadFault }
+    ensures sure_outputs { ((t : T) → T.faults t ≡ 0) → ((o : O) → O.faults o ≡ 0) → result ≢ Status.WriteFault }
 {
     let Answer { status, said } = settle(alloc, words, shelf, tray);
     if say(out, &said) {

@@ -1,6 +1,8 @@
+mod failures;
+
 use crate::run;
 use ato_base::{List, NoMemory, Text};
-use ato_outside::{MemShelf, MemSink, MemTray, SureShelf, SureTray};
+use ato_outside::{MemSink, SureShelf, SureTray};
 use std::alloc::Global;
 use std::test::Fail;
 
@@ -231,36 +233,6 @@ fn words_that_are_no_job_print_the_usage(rt: HostRuntime) -> Result<(), Fail> {
     for line in ["build main.ato:Größe cat.csv", "build a:b:T cat.csv"] {
         let (code, _, _) = built(rt.alloc(), b"", line)?;
         assert_eq!(rt; code, 1, "{line}");
-    }
-    Ok(())
-}
-
-#[test]
-fn a_failure_outside_is_told(rt: HostRuntime) -> Result<(), Fail> {
-    let alloc = rt.alloc();
-    let words = words(alloc, "build main.ato:E cat.csv")?;
-    let source = b"component E:\n    pin 1\n";
-    // The numbers of the calls that fail: a read, a put after 5 bytes, a print.
-    for (read, put, print, code, printed, netlist) in [
-        (1, 9, 9, 5, "read fault main.ato\n", None),
-        (
-            9,
-            1,
-            9,
-            6,
-            "write fault out.net\n",
-            Some(b"(expo".as_slice()),
-        ),
-        (9, 1, 2, 6, "write fault ", Some(b"(expo".as_slice())),
-        (1, 9, 1, 6, "", None),
-    ] {
-        let mut shelf = MemShelf::new(files(alloc, source)?, List::from_vec(vec![in alloc; read]?));
-        let mut tray = MemTray::new(alloc, List::from_vec(vec![in alloc; (put, 5)]?));
-        let mut sink = MemSink::new(alloc, 200, List::from_vec(vec![in alloc; print]?))?;
-        let status = run(alloc, &words, &mut shelf, &mut tray, &mut sink);
-        assert_eq!(rt; status.code(), code);
-        assert_eq!(rt; sink.written(), printed.as_bytes());
-        assert_eq!(rt; tray.get("out.net"), netlist);
     }
     Ok(())
 }

@@ -1,8 +1,8 @@
 use Rattle.ato_build.specs.Words.{texts}
 use Rattle.ato_build.specs.Texts.{said_text}
-use Rattle.std.proofs.Common.{inr, refl}
+use Rattle.std.proofs.Common.{inl, inr, refl}
 use Rattle.ato_build.proofs.BuildLemmas.{printed, caused}
-use Rattle.ato_build.proofs.HeadlineLaws.{usage_where, fault_where, built_where}
+use Rattle.ato_build.proofs.HeadlineLaws.{usage_where, fault_where, built_where, complete, never_rose}
 use Rattle.ato_build.proofs.running.run.Goals as goal
 
 pub returns-then-say-clause-headline : goal.returns-then-say-clause-headline
@@ -38,3 +38,18 @@ returns-else-say-clause-write_told g c = λ is.
         c.if-say.ensures.told,
       ),
     )
+
+pub returns-then-say-clause-complete : goal.returns-then-say-clause-complete
+returns-then-say-clause-complete g c =
+    complete _ _ _ (texts c.args.words.now.items) (g.S.Shelf.files c.args.shelf.now) (g.T.Tray.files c.args.tray.now) (g.T.Tray.files c.settle-status.new.tray)
+    (g.O.Sink.written c.args.out.now) (g.O.Sink.written c.say.new.out) c.settle-status.result.status (returns-then-say-clause-headline g c)
+    c.settle-status.ensures.read (λ is. inl (c.settle-status.ensures.writes.rose is))
+
+pub returns-then-say-clause-sure_shelf : goal.returns-then-say-clause-sure_shelf
+returns-then-say-clause-sure_shelf g c = λ sure is. never_rose _ _ (sure _) (sure _) (c.settle-status.ensures.read is)
+
+pub returns-then-say-clause-sure_outputs : goal.returns-then-say-clause-sure_outputs
+returns-then-say-clause-sure_outputs g c = λ sure also is. never_rose _ _ (sure _) (sure _) (c.settle-status.ensures.writes.rose is)
+
+pub returns-else-say-clause-sure_outputs : goal.returns-else-say-clause-sure_outputs
+returns-else-say-clause-sure_outputs g c = λ sure also is. never_rose _ _ (also _) (also _) (c.if-say.ensures.failed refl)
