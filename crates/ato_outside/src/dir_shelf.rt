@@ -1,4 +1,4 @@
-ghost use Rattle.std.specs.Prelude.{◌≡◌, ◌≤◌, length, IfSome, IsErrOf};
+ghost use Rattle.std.specs.Prelude.{◌≡◌, ◌≤◌, ◌<◌, length, IfSome, IsErrOf};
 ghost use Rattle.ato_outside.specs.Causes.{Counts};
 ghost use Rattle.ato_outside.specs.Shelf.{IsAnswer, Fits};
 
@@ -103,7 +103,9 @@ fn read_file<R: Files>(
     limit: usize,
     into: &mut Vec<u8>,
 ) -> Result<Got, ShelfError>
-    ensures { result ≡ Ok Got.Whole → length into.new.items ≤ limit }
+    ensures room { result ≡ Ok Got.Whole → length into.new.items ≤ limit }
+    ensures whole { result ≡ Ok Got.Whole → (file : R.File) × IfSome (R.File.remaining file) (λ rest. into.new.items ≡ rest) }
+    ensures too_long { result ≡ Ok Got.TooLong → (file : R.File) × IfSome (R.File.remaining file) (λ rest. limit < length rest) }
 {
     let alloc = *into.allocator();
     let Ok(path) = Path::new(folder).join(alloc, name) else {
@@ -135,6 +137,9 @@ impl<'a, R: Files> Shelf for DirShelf<'a, R> {
         ensures faults { Counts self.old.faults self.new.faults (IsErrOf result ShelfError.Failed) }
         ensures misses { Counts self.old.misses self.new.misses (result ≡ Ok Got.Missing) }
         ensures folder { self.new.folder ≡ self.old.folder }
+        // Whole and too long are answers about a file of the system: the bytes are its own, or it has too many.
+        ensures whole { result ≡ Ok Got.Whole → (file : R.File) × IfSome (R.File.remaining file) (λ rest. into.new.items ≡ rest) }
+        ensures too_long { result ≡ Ok Got.TooLong → (file : R.File) × IfSome (R.File.remaining file) (λ rest. limit < length rest) }
     {
         let answer = read_file(self.rt, self.folder, name, limit, into);
         match answer {

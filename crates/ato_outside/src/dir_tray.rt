@@ -1,4 +1,4 @@
-ghost use Rattle.std.specs.Prelude.{◌≡◌, IsErrOf};
+ghost use Rattle.std.specs.Prelude.{◌≡◌, IsErrOf, OnOk};
 ghost use Rattle.ato_outside.specs.Causes.{Counts};
 ghost use Rattle.std.specs.Bool.{OnTrue};
 ghost use Rattle.std.specs.Io.KnownBytes.{Appends};
@@ -88,6 +88,8 @@ impl<'a, R: Files> Tray for DirTray<'a, R> {
     fn put(&mut self, name: &str, bytes: &[u8]) -> Result<(), TrayError>
         ensures faults { Counts self.old.faults self.new.faults (IsErrOf result TrayError.Failed) }
         ensures folder { self.new.folder ≡ self.old.folder }
+        // Only where a file of the system took all of the bytes is the put answered as done.
+        ensures wrote { OnOk result ((before now : R.File) × Appends (R.File.contents before) (R.File.contents now) bytes.now) }
     {
         let Ok(path) = Path::new(self.folder).join(self.alloc, name) else {
             return Err(TrayError::NoMemory);

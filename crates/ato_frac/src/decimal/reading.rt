@@ -4,8 +4,8 @@ ghost use Rattle.std.specs.List.{list_all, prefix_len};
 ghost use Rattle.std.specs.Char.{is_ascii_digit};
 ghost use Rattle.ato_frac.specs.Reading.{front_digits, front_fraction, are_digits, all_digits, signed_digits, exponent_digits, read_number};
 
-// The digits of a number before its point, those after it, and its exponent with whether this is
-// below 0.
+/// The digits of a number before its point, those after it, and its exponent with whether this is
+/// below 0.
 #[derive(Clone, Copy)]
 pub(crate) struct Parts<'a> {
     pub(crate) whole: &'a [u8],
@@ -14,7 +14,7 @@ pub(crate) struct Parts<'a> {
     pub(crate) exponent: &'a [u8],
 }
 
-// Where the digits at the front end.
+/// Where the digits at the front end.
 fn digits_end(text: &[u8]) -> usize
     ensures at { result ≡ prefix_len is_ascii_digit text.now }
     ensures within { result ≤ length text.now }
@@ -22,7 +22,7 @@ fn digits_end(text: &[u8]) -> usize
     text.iter().take_while(|byte| byte.is_ascii_digit()).count()
 }
 
-// The digits at the front, if there are any, and what follows.
+/// The digits at the front, if there are any, and what follows.
 fn front_digits(text: &[u8]) -> Option<(&[u8], &[u8])>
     ensures { MatchOption result
         (front_digits text.now ≡ None)
@@ -35,7 +35,7 @@ fn front_digits(text: &[u8]) -> Option<(&[u8], &[u8])>
     Some(text.split_at(end))
 }
 
-// The digits of a fraction, and what follows.
+/// The digits of a fraction, and what follows.
 fn front_fraction(text: &[u8]) -> Option<(&[u8], &[u8])>
     ensures { MatchOption result
         (front_fraction text.now ≡ None)
@@ -53,14 +53,14 @@ fn has_digits(text: &[u8]) -> bool
     text.iter().all(|byte| byte.is_ascii_digit())
 }
 
-// Whether a text is one or more digits.
+/// Whether a text is one or more digits.
 fn are_digits(text: &[u8]) -> bool
     ensures { result ≡ are_digits text.now }
 {
     1 <= text.len() && has_digits(text)
 }
 
-// A text of digits alone, with a sign.
+/// A text of digits alone, with a sign.
 fn all_digits(negative: bool, text: &[u8]) -> Option<(bool, &[u8])>
     ensures { MatchOption result
         (all_digits negative text.now ≡ None)
@@ -73,7 +73,7 @@ fn all_digits(negative: bool, text: &[u8]) -> Option<(bool, &[u8])>
     }
 }
 
-// Digits with a sign before them, or with none.
+/// Digits with a sign before them, or with none.
 fn signed_digits(text: &[u8]) -> Option<(bool, &[u8])>
     ensures { MatchOption result
         (signed_digits text.now ≡ None)
@@ -87,7 +87,7 @@ fn signed_digits(text: &[u8]) -> Option<(bool, &[u8])>
     }
 }
 
-// Nothing, or `e` or `E` and signed digits.
+/// Nothing, or `e` or `E` and signed digits.
 fn exponent_digits(text: &[u8]) -> Option<(bool, &[u8])>
     ensures { MatchOption result
         (exponent_digits text.now ≡ None)
@@ -100,7 +100,7 @@ fn exponent_digits(text: &[u8]) -> Option<(bool, &[u8])>
     }
 }
 
-// The parts of a number, if the text is one.
+/// The parts of a number, if the text is one.
 pub(crate) fn read_number(text: &[u8]) -> Option<Parts>
     ensures { MatchOption result
         (read_number text.now ≡ None)

@@ -10,10 +10,10 @@ use crate::Frac;
 use crate::decimal::trimming::power_of_ten;
 use crate::fraction::{lowest, reduced_if_small};
 
-// The largest power of 10 either way.
+/// The largest power of 10 either way.
 const MOST: u128 = 38;
 
-// A whole number as a fraction.
+/// A whole number as a fraction.
 fn whole_fraction(n: u128) -> Frac
     requires { n < 2 ^ 127 }
     ensures { value_of result ≈ℚ whole (pos n) }
@@ -21,7 +21,7 @@ fn whole_fraction(n: u128) -> Frac
     lowest(false, n, 1)
 }
 
-// m · 10^k
+/// m · 10^k
 fn times_power(m: u128, k: u32) -> Option<Frac>
     requires m_small { m < 2 ^ 127 }
     requires k_small { k ≤ 38 }
@@ -32,7 +32,7 @@ fn times_power(m: u128, k: u32) -> Option<Frac>
     whole_fraction(m).mul(&whole_fraction(power_of_ten(k))).ok()
 }
 
-// m / 10^k
+/// m / 10^k
 fn over_power(m: u128, k: u32) -> Option<Frac>
     requires positive { 0 < k }
     requires k_small { k ≤ 38 }
@@ -43,7 +43,7 @@ fn over_power(m: u128, k: u32) -> Option<Frac>
     reduced_if_small(false, m, power_of_ten(k))
 }
 
-// m · 10^(up - down)
+/// m · 10^(up - down)
 pub(crate) fn scaled(m: u128, up: u128, down: u128) -> Option<Frac>
     requires { m < 2 ^ 127 }
     ensures { MatchOption result

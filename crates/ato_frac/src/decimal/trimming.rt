@@ -7,14 +7,14 @@ ghost use Rattle.ato_frac.specs.Numbers.{digits_after};
 
 use crate::fraction::LIMIT;
 
-// The significand times 10^zeros. The significand is no multiple of 10, or 0.
+/// The significand times 10^zeros. The significand is no multiple of 10, or 0.
 #[derive(Clone, Copy)]
 pub(crate) struct Trimmed {
     pub(crate) significand: u128,
     pub(crate) zeros: usize,
 }
 
-// 10 to a power that is not large.
+/// 10 to a power that is not large.
 pub(crate) fn power_of_ten(k: u32) -> u128
     requires { k ≤ 38 }
     ensures value { result ≡ 10 ^ k }
@@ -23,7 +23,7 @@ pub(crate) fn power_of_ten(k: u32) -> u128
     10u128.pow(k)
 }
 
-// The number after a digit that is not 0, where it is below 2^127.
+/// The number after a digit that is not 0, where it is below 2^127.
 fn after_digit(number: Trimmed, digit: u8) -> Option<u128>
     requires trimmed { IsTrimmed (number.significand * 10 ^ number.zeros) number.significand number.zeros }
     requires digit { digit < 10 }
@@ -46,7 +46,7 @@ fn after_digit(number: Trimmed, digit: u8) -> Option<u128>
     }
 }
 
-// The number after one more digit. None where its digits, without the zeros at the end, are too many.
+/// The number after one more digit. None where its digits, without the zeros at the end, are too many.
 fn with_digit(number: Trimmed, digit: u8) -> Option<Trimmed>
     requires trimmed { IsTrimmed (number.significand * 10 ^ number.zeros) number.significand number.zeros }
     requires small { number.significand < 2 ^ 127 }
@@ -74,7 +74,7 @@ fn with_digit(number: Trimmed, digit: u8) -> Option<Trimmed>
     })
 }
 
-// The number after more digits.
+/// The number after more digits.
 pub(crate) fn with_digits(start: Trimmed, digits: &[u8]) -> Option<Trimmed>
     requires trimmed { IsTrimmed (start.significand * 10 ^ start.zeros) start.significand start.zeros }
     requires small { start.significand < 2 ^ 127 }

@@ -10,7 +10,7 @@ use crate::decimal::scaling::scaled;
 use crate::decimal::trimming::{Trimmed, with_digits};
 use crate::{Exact, Frac};
 
-// The digits before and after the point as one whole number.
+/// The digits before and after the point as one whole number.
 fn significand(whole: &[u8], fraction: &[u8]) -> Option<Trimmed>
     requires whole { list_all is_ascii_digit whole.now ≡ true }
     requires fraction { list_all is_ascii_digit fraction.now ≡ true }
@@ -29,7 +29,7 @@ fn significand(whole: &[u8], fraction: &[u8]) -> Option<Trimmed>
     with_digits(front, fraction)
 }
 
-// The number after one more digit, where it is below 2^64.
+/// The number after one more digit, where it is below 2^64.
 fn next_size(size: u64, digit: u8) -> Option<u64>
     requires { digit < 10 }
     ensures { MatchOption result
@@ -39,7 +39,7 @@ fn next_size(size: u64, digit: u8) -> Option<u64>
     size.checked_mul(10)?.checked_add(digit as u64)
 }
 
-// The value of an exponent's digits, where it is below 2^64.
+/// The value of an exponent's digits, where it is below 2^64.
 fn exponent_size(digits: &[u8]) -> Option<u64>
     requires { list_all is_ascii_digit digits.now ≡ true }
     ensures { MatchOption result
@@ -53,7 +53,7 @@ fn exponent_size(digits: &[u8]) -> Option<u64>
     Some(size)
 }
 
-// The powers of 10 in the numerator and in the denominator.
+/// The powers of 10 in the numerator and in the denominator.
 fn powers(zeros: usize, places: usize, negative: bool, size: u64) -> (u128, u128)
     ensures { pos result.0 +ℤ neg_ℤ (pos result.1)
         ≡ (signed_value negative size +ℤ neg_ℤ (pos places)) +ℤ pos zeros }
@@ -65,7 +65,7 @@ fn powers(zeros: usize, places: usize, negative: bool, size: u64) -> (u128, u128
     }
 }
 
-// The fraction of a number's parts, if it is read.
+/// The fraction of a number's parts, if it is read.
 pub(crate) fn fraction_of(
     whole: &[u8],
     fraction: &[u8],

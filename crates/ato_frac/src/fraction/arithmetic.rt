@@ -8,7 +8,7 @@ ghost use Rattle.ato_rational.specs.Rational.{◌≈ℚ◌, ◌+ℚ◌, ◌-ℚ�
 use crate::fraction::lowest_terms::{LIMIT, gcd, lowest, reduced};
 use crate::{Frac, NumFault};
 
-// a ⋅ b, where it is below 2^127 in size.
+/// a ⋅ b, where it is below 2^127 in size.
 fn product(a: i128, b: u128) -> Option<i128>
     requires { b < 2 ^ 127 }
     ensures { MatchOption result
@@ -19,7 +19,7 @@ fn product(a: i128, b: u128) -> Option<i128>
     if r == i128::MIN { None } else { Some(r) }
 }
 
-// a + b, where it is below 2^127 in size.
+/// a + b, where it is below 2^127 in size.
 fn sum(a: i128, b: i128) -> Option<i128>
     ensures { MatchOption result
         (¬ (unsigned_abs (a +ℤ b) < 2 ^ 127))
@@ -29,7 +29,7 @@ fn sum(a: i128, b: i128) -> Option<i128>
     if r == i128::MIN { None } else { Some(r) }
 }
 
-// a ⋅ b, where it is below 2^127.
+/// a ⋅ b, where it is below 2^127.
 fn size_product(a: u128, b: u128) -> Option<u128>
     ensures { MatchOption result
         (¬ (a * b < 2 ^ 127))
@@ -110,7 +110,7 @@ impl Frac {
         self.mul(&inverse)
     }
 
-    // The opposite.
+    /// The opposite.
     fn opposite(&self) -> Frac
         ensures numer { result.numer ≡ neg_ℤ self.now.numer }
         ensures denom { result.denom ≡ self.now.denom }
@@ -118,7 +118,7 @@ impl Frac {
         lowest(!self.is_negative(), self.size(), self.denom)
     }
 
-    // 1 over a fraction that is not 0.
+    /// 1 over a fraction that is not 0.
     fn inverse(&self) -> Frac
         requires { self.now.numer ≢ pos 0 }
         ensures numer { result.numer ≡ (inverse_ℚ (value_of self.now)).num }

@@ -5,10 +5,10 @@ ghost use Rattle.ato_frac.specs.LowestTerms.{signed_of, HasSmallTerms};
 
 use crate::Frac;
 
-// Both parts of a fraction are below this.
+/// Both parts of a fraction are below this.
 pub(crate) const LIMIT: u128 = 0x8000_0000_0000_0000_0000_0000_0000_0000;
 
-// The greatest common divisor.
+/// The greatest common divisor.
 pub(crate) fn gcd(a: u128, b: u128) -> u128
     ensures { IsGcd a b result }
 {
@@ -22,7 +22,7 @@ pub(crate) fn gcd(a: u128, b: u128) -> u128
     x
 }
 
-// A size with a sign.
+/// A size with a sign.
 fn signed(negative: bool, size: u128) -> i128
     requires { size < 2 ^ 127 }
     ensures { result ≡ signed_of negative size }
@@ -34,7 +34,7 @@ fn signed(negative: bool, size: u128) -> i128
     }
 }
 
-// The fraction of lowest terms p / q.
+/// The fraction of lowest terms p / q.
 pub(crate) fn lowest(negative: bool, p: u128, q: u128) -> Frac
     requires positive { 0 < q }
     requires p_small { p < 2 ^ 127 }
@@ -49,7 +49,7 @@ pub(crate) fn lowest(negative: bool, p: u128, q: u128) -> Frac
     }
 }
 
-// The fraction n / d of numbers that are small enough.
+/// The fraction n / d of numbers that are small enough.
 pub(crate) fn reduced(negative: bool, n: u128, d: u128) -> Frac
     requires positive { 0 < d }
     requires n_small { n < 2 ^ 127 }
@@ -60,7 +60,7 @@ pub(crate) fn reduced(negative: bool, n: u128, d: u128) -> Frac
     lowest(negative, n / g, d / g)
 }
 
-// The fraction n / d, where its lowest terms are small enough.
+/// The fraction n / d, where its lowest terms are small enough.
 pub(crate) fn reduced_if_small(negative: bool, n: u128, d: u128) -> Option<Frac>
     requires { 0 < d }
     ensures { MatchOption result

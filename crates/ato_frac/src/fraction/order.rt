@@ -8,7 +8,7 @@ ghost use Rattle.ato_rational.specs.Rational.{Orders};
 use crate::Frac;
 use std::cmp::Ordering;
 
-// Compares a ⋅ b with c ⋅ d, whose products may have 256 bits.
+/// Compares a ⋅ b with c ⋅ d, whose products may have 256 bits.
 fn compare_products(a: u128, b: u128, c: u128, d: u128) -> Ordering
     ensures { result ≡ nat_cmp (a * b) (c * d) }
 {
@@ -31,7 +31,7 @@ impl Frac {
         self.order(o)
     }
 
-    // The order, by the signs and then by the cross products.
+    /// The order, by the signs and then by the cross products.
     fn order(&self, o: &Frac) -> Ordering
         ensures { Orders (value_of self.now) (value_of o.now) result }
     {

@@ -8,7 +8,7 @@ ghost use Rattle.ato_rational.specs.Rational.{◌≈ℚ◌, ◌/ℚ◌, whole};
 use crate::Frac;
 use crate::fraction::lowest_terms::reduced_if_small;
 
-// The fraction n / d of signed numbers, where its lowest terms are small enough.
+/// The fraction n / d of signed numbers, where its lowest terms are small enough.
 fn quotient(n: i128, d: i128) -> Option<Frac>
     requires { d ≢ pos 0 }
     ensures { MatchOption result
@@ -52,14 +52,14 @@ impl Frac {
         self.denom as i128
     }
 
-    // The numerator without its sign.
+    /// The numerator without its sign.
     pub(crate) fn size(&self) -> u128
         ensures { result ≡ unsigned_abs self.now.numer }
     {
         self.numer.unsigned_abs()
     }
 
-    // Whether the fraction is below 0.
+    /// Whether the fraction is below 0.
     pub(crate) fn is_negative(&self) -> bool
         ensures { result ≡ int_lt self.now.numer (pos 0) }
     {
