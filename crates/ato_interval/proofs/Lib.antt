@@ -1,0 +1,5 @@
+pub mod FoldLaws
+pub mod OverlapLaws
+pub mod PassLaws
+pub mod ResultLaws
+pub mod SetLaws

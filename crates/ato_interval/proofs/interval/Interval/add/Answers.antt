@@ -1,0 +1,16 @@
+use Rattle.ato_rational.specs.Rational.{◌+ℚ◌}
+use Rattle.ato_rational.proofs.Ends.{sum_within}
+use Rattle.ato_interval.proofs.ResultLaws.{ends_same, low_low, high_high}
+use Rattle.ato_interval.proofs.interval.Interval.add.Goals as goal
+
+pub returns-clause-holds : goal.returns-clause-holds
+returns-clause-holds g c =
+    rw (← c.self.view_is, ← c.o.view_is) (λ x y v w. ends_same c.in-Some.ensures.1 c.in-Some-plus.ensures.1 (sum_within _ _ _ _ x y v w))
+
+pub returns-clause-low_is : goal.returns-clause-low_is
+returns-clause-low_is g c =
+    rw (← c.self.view_is, ← c.o.view_is) (low_low g.Q.Exact.value ◌+ℚ◌ _ _ c.self.invariant c.o.invariant _ c.in-Some.ensures.1)
+
+pub returns-clause-high_is : goal.returns-clause-high_is
+returns-clause-high_is g c =
+    rw (← c.self.view_is, ← c.o.view_is) (high_high g.Q.Exact.value ◌+ℚ◌ _ _ c.self.invariant c.o.invariant _ c.in-Some-plus.ensures.1)

@@ -1,0 +1,8 @@
+use Rattle.ato_interval.proofs.FoldLaws.{next_power, raised_more}
+use Rattle.ato_interval.proofs.interval.folds.power.Goals as goal
+
+pub factors-preserved : goal.factors-preserved
+factors-preserved g c = record {
+  raised = raised_more g.Q.Exact.value g.Q.Exact.can_multiply _ _ _ c.factors.invariant.raised c.factors.invariant.is_power c.in_ok-power.ensures.0;
+  is_power = next_power _ _ _ _ c.factors.invariant.is_power c.in_ok-power.ensures.1;
+}
