@@ -1,0 +1,14 @@
+pub mod CellLaws
+pub mod HeadingLaws
+pub mod RecordLaws
+pub mod RecordExamples
+pub mod FirstFault
+pub mod ShowsLaws
+pub mod WholeLaws
+pub mod NoFaultLaws
+pub mod WellMadeLaws
+pub mod CatalogueLaws
+pub mod FaultLaws
+pub mod RangeLaws
+pub mod ContentsExamples
+pub mod PlaceLaws

@@ -1,0 +1,9 @@
+pub mod Limits
+pub mod Records
+pub mod Ranges
+pub mod Header
+pub mod Rows
+pub mod Contents
+pub mod Catalogue
+pub mod Parts
+pub mod WellMade

@@ -1,0 +1,8 @@
+-- The records of a text of comma-separated cells.
+use Rattle.std.specs.Prelude.{ℕ, List}
+use Rattle.csv.specs.Reading.{default_config, records, strip_bom}
+
+-- The records of some bytes, each a list of cells, as the default reader of `csv` reads what stands after a byte order mark:
+-- quotes are taken off, lines end with LF, CR LF or CR, and empty lines are passed over.
+abbrev pub records_of : List ℕ → List (List (List ℕ))
+records_of bytes = records default_config (strip_bom bytes)
