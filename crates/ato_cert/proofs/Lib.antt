@@ -1,0 +1,11 @@
+pub mod CertReading
+pub mod LineLemmas
+pub mod NumberLemmas
+pub mod PieceLemmas
+pub mod RowLemmas
+pub mod TreeLemmas
+pub mod TreeReading
+pub mod WholeReading
+pub mod FailingLemmas
+pub mod Soundness
+pub mod SearchLemmas

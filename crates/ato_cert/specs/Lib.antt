@@ -1,0 +1,12 @@
+pub mod Good
+pub mod Justified
+pub mod Laws
+pub mod Nodes
+pub mod Problems
+pub mod Readable
+pub mod Reading
+pub mod Refusals
+pub mod Searching
+pub mod Selection
+pub mod Texts
+pub mod Valid

@@ -1,0 +1,329 @@
+use crate::{
+    Cert, CertRefusal, Problem, Row, Slot, cert_text, nodes, read_cert, search, valid_is_sound,
+};
+use ato_base::{List, NoMemory};
+use ato_frac::{Exact, Frac};
+use std::alloc::Global;
+use std::test::Fail;
+
+/// A whole number as a fraction, or 0 where it does not fit.
+fn whole(n: i128) -> Frac {
+    match Frac::new(n, 1) {
+        Some(f) => f,
+        None => Frac::zero(),
+    }
+}
+
+/// The problem of candidates, each with its number and the ends of its range, and a target.
+fn problem_of(
+    alloc: Global,
+    candidates: &[(u32, i128, i128)],
+    target: (i128, i128),
+) -> Result<Problem, NoMemory> {
+    let mut rows = List::new(alloc);
+    for (number, low, high) in candidates {
+        rows.push(Row {
+            number: *number,
+            low: whole(*low),
+            high: whole(*high),
+        })?;
+    }
+    Ok(Problem {
+        slot: Some(Slot {
+            rows,
+            low: whole(target.0),
+            high: whole(target.1),
+        }),
+    })
+}
+
+/// What the search gives, or none where its conditions are not met.
+fn found(alloc: Global, problem: &Problem) -> Result<Option<Cert>, NoMemory> {
+    if !problem.is_well_made() {
+        return Ok(None);
+    }
+    if let Some(slot) = &problem.slot {
+        if slot.rows.len() > 1000 {
+            return Ok(None);
+        }
+    }
+    Ok(Some(search(alloc, problem, 20000)?))
+}
+
+/// The text of what the search gives, with the number of its nodes, or none where its conditions are
+/// not met.
+fn found_text(alloc: Global, problem: &Problem) -> Result<Option<(List<u8>, u32)>, NoMemory> {
+    match found(alloc, problem)? {
+        Some(cert) => Ok(Some((cert_text(alloc, &cert)?, nodes(&cert)))),
+        None => Ok(None),
+    }
+}
+
+/// The text of a certificate after its second word, for 20,000 steps.
+fn text_with(alloc: Global, word: &str, proof: &str) -> Result<String, NoMemory> {
+    Ok(format!(in alloc; "ato-certificate 1\nverdict {word}\nsteps 20000\n{proof}")?)
+}
+
+const MOST: i128 = 999_999_999_999_999_999;
+
+#[test]
+fn certificates_to_the_byte(rt: HostRuntime) -> Result<(), Fail> {
+    let alloc = rt.alloc();
+    valid_is_sound();
+    let none: [(u32, i128, i128); 0] = [];
+    let two = [(1, 1, 3), (2, 2, 2)];
+    let three = [(3, 0, 9), (7, 2, 3), (8, 2, 3)];
+    let odd = [(1, 0, 1), (2, 9, 9), (4, -7, 7)];
+    let large = [(1, 0, MOST), (4_294_967_295, MOST, MOST)];
+    for (candidates, target, word, proof) in [
+        (
+            two.as_slice(),
+            (2, 4),
+            "built",
+            "pick 2\ncheck 1\nholds\nend\n",
+        ),
+        (
+            two.as_slice(),
+            (4, 5),
+            "refuted",
+            "row 1 1\nfails 1 0/1\nfails 1 0/1\n",
+        ),
+        (none.as_slice(), (2, 4), "refuted", "empty 1\n"),
+        (
+            three.as_slice(),
+            (0, 9),
+            "built",
+            "pick 3\ncheck 1\nholds\nend\n",
+        ),
+        (
+            three.as_slice(),
+            (2, 3),
+            "built",
+            "pick 7\ncheck 1\nholds\nend\n",
+        ),
+        (
+            odd.as_slice(),
+            (2, 8),
+            "refuted",
+            "row 1 2\nrow 1 1\nfails 1 0/1\nfails 1 1/1\nfails 1 0/1\n",
+        ),
+        (
+            odd.as_slice(),
+            (-7, 7),
+            "built",
+            "pick 1\ncheck 1\nholds\nend\n",
+        ),
+        (
+            odd.as_slice(),
+            (-7, -7),
+            "refuted",
+            "row 1 2\nrow 1 1\nfails 1 1/1\nfails 1 1/1\nfails 1 1/1\n",
+        ),
+        (
+            large.as_slice(),
+            (MOST, MOST),
+            "built",
+            "pick 4294967295\ncheck 1\nholds\nend\n",
+        ),
+        (
+            large.as_slice(),
+            (0, MOST - 1),
+            "refuted",
+            "row 1 1\nfails 1 1/1\nfails 1 1/1\n",
+        ),
+    ] {
+        let problem = problem_of(alloc, candidates, target)?;
+        let want = text_with(alloc, word, proof)?;
+        match found_text(alloc, &problem)? {
+            Some((text, _)) => assert_eq!(rt; text.as_slice(), want.as_bytes(), "{proof}"),
+            None => assert!(rt; false),
+        }
+    }
+    Ok(())
+}
+
+#[test]
+fn without_a_slot_the_empty_pick_is_built(rt: HostRuntime) -> Result<(), Fail> {
+    let alloc = rt.alloc();
+    let want = text_with(alloc, "built", "pick\nend\n")?;
+    match found_text(alloc, &Problem { slot: None })? {
+        Some((text, count)) => {
+            assert_eq!(rt; text.as_slice(), want.as_bytes());
+            assert_eq!(rt; count, 0);
+        }
+        None => assert!(rt; false),
+    }
+    Ok(())
+}
+
+/// The nodes of the certificate for rows from 1 on, the values of each its number, and a target.
+fn count_of_many(alloc: Global, rows: u32, target: (i128, i128)) -> Result<Option<u32>, NoMemory> {
+    let mut candidates = List::new(alloc);
+    for number in 0..rows {
+        let value = i128::from(number);
+        candidates.push((number, value, value))?;
+    }
+    let problem = problem_of(alloc, candidates.as_slice(), target)?;
+    match found(alloc, &problem)? {
+        Some(cert) => Ok(Some(nodes(&cert))),
+        None => Ok(None),
+    }
+}
+
+#[test]
+fn nodes_of_many_rows(rt: HostRuntime) -> Result<(), Fail> {
+    for (rows, target, count) in [
+        (1, (0, 0), Some(1)),
+        (1000, (999, 999), Some(1)),
+        (1000, (2000, 3000), Some(1999)),
+        (1000, (3, 2), None),
+        (1001, (0, 0), None),
+    ] {
+        assert_eq!(rt; count_of_many(rt.alloc(), rows, target)?, count);
+    }
+    Ok(())
+}
+
+#[test]
+fn problems_that_are_not_well_made(rt: HostRuntime) -> Result<(), Fail> {
+    for (candidates, target, is) in [
+        ([(1, 0, 0), (2, 5, 5)], (0, 0), true),
+        ([(1, 0, 0), (1, 5, 5)], (0, 0), false),
+        ([(2, 0, 0), (1, 5, 5)], (0, 0), false),
+        ([(1, 0, 0), (2, 5, 4)], (0, 0), false),
+        ([(1, 0, 0), (2, 5, 5)], (1, 0), false),
+    ] {
+        let problem = problem_of(rt.alloc(), candidates.as_slice(), target)?;
+        assert_eq!(rt; problem.is_well_made(), is);
+    }
+    Ok(())
+}
+
+/// The bad line of a text, or 0 where it is read and is written as it was.
+fn bad_line(alloc: Global, text: &[u8], problem: &Problem) -> Result<u32, NoMemory> {
+    if text.len() > 1_000_000 {
+        return Err(NoMemory);
+    }
+    match read_cert(alloc, text, problem) {
+        Ok(cert) => {
+            let again = cert_text(alloc, &cert)?;
+            if again.as_slice() == text {
+                Ok(0)
+            } else {
+                Ok(9999)
+            }
+        }
+        Err(CertRefusal::Bad(line)) => Ok(line),
+        Err(CertRefusal::NoMemory) => Err(NoMemory),
+    }
+}
+
+#[test]
+fn first_bad_lines_of_texts(rt: HostRuntime) -> Result<(), Fail> {
+    let alloc = rt.alloc();
+    let problem = problem_of(alloc, [(1, 1, 3), (2, 2, 2)].as_slice(), (2, 4))?;
+    for (text, line) in [
+        ("", 1),
+        ("ato-certificate 2\n", 1),
+        ("ato-certificate 1\n", 2),
+        ("ato-certificate 1\nverdict too-wide\n", 2),
+        ("ato-certificate 1\nverdict built\npick 2\n", 3),
+        (
+            "ato-certificate 1\nverdict built\nsteps 0\npick 2\nend\n",
+            3,
+        ),
+        (
+            "ato-certificate 1\nverdict built\nsteps 200001\npick 2\nend\n",
+            3,
+        ),
+        (
+            "ato-certificate 1\nverdict built\nsteps 020\npick 2\nend\n",
+            3,
+        ),
+        (
+            "ato-certificate 1\nverdict built\nsteps 200000\npick 2\nend\n",
+            0,
+        ),
+    ] {
+        assert_eq!(rt; bad_line(alloc, text.as_bytes(), &problem)?, line, "{text}");
+    }
+    for (word, proof, line) in [
+        ("built", "pick 2\ncheck 1\nholds\nend\n", 0),
+        ("built", "pick 4294967295\nend\n", 0),
+        ("built", "pick 4294967296\nend\n", 4),
+        ("built", "pick 02\nend\n", 4),
+        ("built", "pick 1 2\nend\n", 4),
+        ("built", "pick\nend\n", 4),
+        ("built", "pick 2\ncheck 2\nholds\nend\n", 5),
+        ("built", "pick 2\ncheck 1\nwide\nend\n", 6),
+        ("built", "pick 2\ncheck 1\nholds\n", 7),
+        ("built", "pick 2\nend\n\n", 6),
+        ("refuted", "empty 1\n", 0),
+        ("refuted", "empty 2\n", 4),
+        ("refuted", "row 1 5\nempty 1\n", 6),
+        ("refuted", "row 1 5\nempty 1\nfails 1\n", 0),
+        ("refuted", "row 1 5\nempty 1\nempty 1\nempty 1\n", 7),
+        ("refuted", "row  1 5\nempty 1\nempty 1\n", 4),
+        ("refuted", "fails 1 0/1 -3/4 12/5\n", 0),
+        (
+            "refuted",
+            "fails 1 170141183460469231731687303715884105727/2\n",
+            0,
+        ),
+        (
+            "refuted",
+            "fails 1 170141183460469231731687303715884105728/1\n",
+            4,
+        ),
+        ("refuted", "fails 1 2/4\n", 4),
+        ("refuted", "fails 1 -0/1\n", 4),
+        ("refuted", "fails 1 1/0\n", 4),
+        ("refuted", "fails 1 1/1 0", 4),
+        ("refuted", "fails 2 1/1\n", 4),
+        ("refuted", "", 4),
+    ] {
+        let text = text_with(alloc, word, proof)?;
+        assert_eq!(rt;
+            bad_line(alloc, text.as_bytes(), &problem)?,
+            line,
+            "{proof}"
+        );
+    }
+    for (word, proof, line) in [
+        ("built", "pick\nend\n", 0),
+        ("built", "pick 1\nend\n", 4),
+        ("built", "pick\ncheck 1\nholds\nend\n", 5),
+        ("refuted", "empty 1\n", 4),
+    ] {
+        let text = text_with(alloc, word, proof)?;
+        assert_eq!(rt;
+            bad_line(alloc, text.as_bytes(), &Problem { slot: None })?,
+            line,
+            "{proof}"
+        );
+    }
+    Ok(())
+}
+
+/// The bad line of a tree of so many lines `row` below each other.
+fn bad_line_of_rows(alloc: Global, rows: usize, problem: &Problem) -> Result<u32, NoMemory> {
+    let mut text = text_with(alloc, "refuted", "")?;
+    for _ in 0..rows {
+        text.push_str("row 1 1\n")?;
+    }
+    for _ in 0..rows {
+        text.push_str("empty 1\n")?;
+    }
+    text.push_str("empty 1\n")?;
+    bad_line(alloc, text.as_bytes(), problem)
+}
+
+#[test]
+fn trees_of_many_rows(rt: HostRuntime) -> Result<(), Fail> {
+    let alloc = rt.alloc();
+    let problem = problem_of(alloc, [(1, 1, 3)].as_slice(), (2, 4))?;
+    for (rows, line) in [(10_000, 0), (10_001, 10_004)] {
+        assert_eq!(rt; bad_line_of_rows(alloc, rows, &problem)?, line, "{rows}");
+    }
+    Ok(())
+}
