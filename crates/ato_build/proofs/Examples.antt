@@ -1,6 +1,6 @@
 -- Small cases, worked by hand.
 use Rattle.std.proofs.Common.{◌≡◌, true, false, ◌&&◌, [], ◌∷◌, ◌++◌, ap, refl, arith}
-use Rattle.std.specs.Prelude.{codes}
+use Rattle.std.specs.Prelude.{ℕ, List, codes, Option, Some, None}
 use Rattle.std.specs.Fmt.{digits}
 use Rattle.ato_base.specs.declared.faults.FaultKind.TheVariants as kinds
 use Rattle.ato_base.specs.Names.{is_name}
@@ -9,17 +9,20 @@ use Rattle.ato_base.specs.Classes.{no_class, a_class, no_point, related}
 use Rattle.ato_base.specs.Joined.{same, along, against}
 use Rattle.ato_base.specs.declared.nets.NetList.{NetList}
 use Rattle.ato_lexer.specs.declared.first_form.End.TheVariants.{Name, Declared}
-use Rattle.ato_lexer.specs.declared.first_form.Line.TheVariants.{Pass, Declaration, Join}
+use Rattle.ato_lexer.specs.declared.first_form.Line.TheVariants.{Pass, Declaration, Join, Kind, Attribute, Assertion}
 use Rattle.ato_lexer.specs.declared.first_form.Point.TheVariants.{Signal, Pin}
 use Rattle.ato_lexer.specs.FirstTokens.{syntax_fault}
 use Rattle.ato_build.specs.Entry.{word_fault, entry_file}
 use Rattle.ato_build.specs.FirstNets.{net_pin, by_signal, IsNetList}
+use Rattle.ato_build.specs.FirstParts.{part_of, candidates}
+use Rattle.ato_catalog.specs.Rows.{PlainRow}
 use Rattle.ato_build.specs.FirstPoints.{IsJoinedByLine}
 use Rattle.ato_build.specs.Netlists.{list_text, comp_text, net_text, node_text, field, quoted}
 use Rattle.ato_build.specs.PlainNames.{is_plain, is_put}
 use Rattle.ato_build.specs.Texts.{column_at, fault_text, place_in_text, word_text}
-use Rattle.ato_build.specs.Words.{IsBuild}
+use Rattle.ato_build.specs.Words.{IsBuild, line_of, is_read}
 use Rattle.ato_build.specs.declared.words.Build.{Build}
+use Rattle.ato_build.specs.declared.word_line.Turn.TheVariants.{Any, Positional}
 
 -- ---- a block with no pin
 
@@ -30,7 +33,7 @@ abbrev empty_list : NetList
 empty_list = record { comps = []; nets = [] }
 
 -- Its net list has no part and no net.
-pub empty_is : IsNetList empty_block empty_list
+pub empty_is : IsNetList empty_block (codes "E") empty_list
 empty_is = record { comps = refl; classes = []; are_classes = no_class; nets = tt }
 
 pub empty_netlist : list_text empty_list ≡ codes "(export (version \"ato-1\")\n  (components\n  )\n  (nets\n  )\n)\n"
@@ -58,7 +61,7 @@ two_to_signal : IsJoinedByLine two_pins (Pin (codes "2")) (Signal (codes "a"))
 two_to_signal = (Declared (Pin (codes "2")), Name (codes "a"), (2, omega arith, refl), refl, refl)
 
 -- The two pins are joined through the signal, and the net has its name.
-pub two_pins_is : IsNetList two_pins one_net
+pub two_pins_is : IsNetList two_pins (codes "Two") one_net
 two_pins_is = record {
   comps = refl;
   classes = (codes "1" ∷ codes "2" ∷ []) ∷ [];
@@ -134,9 +137,54 @@ longer_name = refl
 -- The words of the build of main.ato, since T is a name.
 pub main_words : is_name (codes "T") ≡ true → IsBuild (codes "build" ∷ codes "main.ato:T" ∷ codes "parts.csv" ∷ []) main_build
 main_words named = record {
-  words_are = refl;
-  positional = refl;
-  parts = ap (λ name. true && name && true && true && true && true) named;
-  out = refl;
-  steps = refl;
+  read = refl;
+  of = record { words_are = refl; parts = ap (λ name. true && name && true && true && true && true) named; out_is = refl; plain = refl; steps = refl };
 }
+
+-- An option may stand between positional words, and a dash after `--` makes no option.
+pub out_between : line_of (codes "build" ∷ codes "--out" ∷ codes "b" ∷ codes "--" ∷ codes "x" ∷ []) ≡ record { turn = Positional; positional = codes "build" ∷ codes "x" ∷ []; out = Some (codes "b") }
+out_between = refl
+
+-- The value may stand behind the sign.
+pub out_joined : line_of (codes "--out=b/c" ∷ []) ≡ record { turn = Any; positional = []; out = Some (codes "b/c") }
+out_joined = refl
+
+-- A value that is not there, one that begins with a dash, a second one, another option and a dash after `--` are refused.
+pub no_value : is_read (line_of (codes "x" ∷ codes "--out" ∷ [])).turn ≡ false
+no_value = refl
+
+pub dash_value : is_read (line_of (codes "--out" ∷ codes "--" ∷ [])).turn ≡ false
+dash_value = refl
+
+pub second_value : is_read (line_of (codes "--out=a" ∷ codes "--out=a" ∷ [])).turn ≡ false
+second_value = refl
+
+pub other_option : is_read (line_of (codes "--outer=a" ∷ [])).turn ≡ false
+other_option = refl
+
+pub late_dash : is_read (line_of (codes "--" ∷ codes "--" ∷ [])).turn ≡ false
+late_dash = refl
+
+-- ---- a part and its candidates
+
+abbrev some_row : List ℕ → List ℕ → Option (ℕ × ℕ) → PlainRow
+some_row part kind cell = record { part = part; kind = kind; cells = cell ∷ [] }
+
+-- The part of a block with its three lines, in any order.
+pub its_part : part_of (Assertion (record { name = codes "x"; low = codes "2"; high = codes "4" }) ∷ Pass ∷ Kind (codes "k") ∷ Attribute (codes "x") ∷ [])
+    ≡ Some (record { kind = codes "k"; attribute = codes "x"; low = 2; high = 4 })
+its_part = refl
+
+-- A row of another kind is no candidate, nor is one without a value. The others keep their numbers.
+pub two_candidates : candidates
+    (record { columns = record { name = codes "x"; at = 3 } ∷ []; rows = some_row (codes "A") (codes "k") (Some (1, 3)) ∷ some_row (codes "B") (codes "j") (Some (9, 9)) ∷ some_row (codes "C") (codes "k") None ∷ some_row (codes "D") (codes "k") (Some (2, 2)) ∷ [] })
+    (record { kind = codes "k"; attribute = codes "x"; low = 2; high = 4 })
+    ≡ record { number = 1; low = 1; high = 3 } ∷ record { number = 4; low = 2; high = 2 } ∷ []
+two_candidates = refl
+
+-- Where no column has the attribute's name there is none.
+pub no_candidate : candidates
+    (record { columns = record { name = codes "y"; at = 3 } ∷ []; rows = some_row (codes "A") (codes "k") (Some (1, 3)) ∷ [] })
+    (record { kind = codes "k"; attribute = codes "x"; low = 2; high = 4 })
+    ≡ []
+no_candidate = refl

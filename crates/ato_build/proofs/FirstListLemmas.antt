@@ -1,6 +1,6 @@
 -- The net list that is made of class numbers is the block's.
 use Rattle.std.proofs.Common.{◌≡◌, ℕ, zero, suc, ◌<◌, ◌≤◌, ◌+◌, Bool, true, false, List, [], ◌∷◌, ◌++◌, length, get_or, map, take, drop, ap, sym, ◌∙◌, refl, arith, subst, if◌then◌else◌, nat_lt, take-append-drop, drop-cons}
-use Rattle.std.specs.Prelude.{Contains, All}
+use Rattle.std.specs.Prelude.{Contains, All, ◌||◌, Option, Some, None, is_some}
 use Rattle.std.specs.List.{AllZip}
 use Rattle.std.proofs.lemmas.Bool.{ltb-true, ltb-false}
 use Rattle.std.proofs.lemmas.List.{take_all, map-append, length-take, get_or-take, get_or_default}
@@ -15,7 +15,8 @@ use Rattle.ato_lexer.specs.declared.first_form.Block.{Block}
 use Rattle.ato_build.specs.ClassNumbers.{IsJoin, AreClassNumbers}
 use Rattle.ato_build.specs.FirstPoints.{signals_of, pins_of, AreJoined, AreKnown}
 use Rattle.ato_build.specs.FirstJoins.{point_number, lines_joins}
-use Rattle.ato_build.specs.FirstNets.{net_pin, IsNetName, by_signal, by_pin, IsNet, comps_of, IsNetList}
+use Rattle.ato_build.specs.FirstNets.{net_pin, IsNetName, by_signal, by_pin, IsNet, is_comp, comps_with, IsNetList}
+use Rattle.ato_build.specs.FirstParts.{Part, part_of, slot_count}
 use Rattle.ato_build.specs.FirstGroups.{SameClass, numbers_below, label_at, class_name, group_net}
 use Rattle.ato_build.specs.declared.first_points.Points.{Points}
 use Rattle.ato_build.proofs.ClassNumberLaws.{joined_same_class, same_class_joined}
@@ -119,9 +120,9 @@ module _ (block : Block) (known : AreKnown block) (of : List ℕ) (are : AreClas
       (λ i j m n. (joined_pins i j (below (length (pins_of block)) i m) (below (length (pins_of block)) j n), same_pins i j (below (length (pins_of block)) i m) (below (length (pins_of block)) j n)))))
 
   -- The net list of the groups is the block's.
-  pub made_list : (groups : List (List ℕ)) → Classes (SameClass of (length (signals_of block))) (numbers_below (length (pins_of block))) groups
-      → IsNetList block (record { comps = comps_of block (pins_of block); nets = map (group_net (the_points block) of) groups })
-  made_list groups classes = record {
+  pub made_list : (value : List ℕ) (groups : List (List ℕ)) → Classes (SameClass of (length (signals_of block))) (numbers_below (length (pins_of block))) groups
+      → IsNetList block value (record { comps = comps_with (is_comp block) value; nets = map (group_net (the_points block) of) groups })
+  made_list value groups classes = record {
     comps = refl;
     classes = map (map (label_at (the_points block))) groups;
     are_classes = label_classes groups classes;
@@ -160,16 +161,27 @@ module _ (block : Block) (known : AreKnown block) (points : Points) (signals_are
       omega (arith, pin, many)
 
   -- the net list that is made is the block's
-  pub list_made : (joins : List (ℕ × ℕ)) (count : ℕ) (of : List ℕ) (first pins : ℕ) (groups : List (List ℕ)) (list : NetList) → joins ≡ lines_joins points block.lines → count ≡ length points.signals + length points.pins
+  pub list_made : (joins : List (ℕ × ℕ)) (count : ℕ) (of : List ℕ) (first pins : ℕ) (groups : List (List ℕ)) (value : List ℕ) (comp : Bool) (list : NetList) → joins ≡ lines_joins points block.lines → count ≡ length points.signals + length points.pins
       → AreClassNumbers count joins of → first ≡ length points.signals → pins ≡ length points.pins → Classes (SameClass of first) (numbers_below pins) groups
-      → list.comps ≡ comps_of block points.pins → list.nets ≡ map (group_net points of) groups → IsNetList block list
-  list_made joins count of first pins groups list is many are start size classes comps nets =
+      → comp ≡ is_comp block → list.comps ≡ comps_with comp value → list.nets ≡ map (group_net points of) groups → IsNetList block value list
+  list_made joins count of first pins groups value comp list is many are start size classes comp_is comps nets =
       let numbers = class_numbers joins count of is many are in
       let begin : first ≡ length (signals_of block) = start ∙ ap length signals_are in
       let end : pins ≡ length (pins_of block) = size ∙ ap length pins_are in
       let told : Classes (SameClass of (length (signals_of block))) (numbers_below (length (pins_of block))) groups =
       subst (λ n. Classes (SameClass of (length (signals_of block))) (numbers_below n) groups) end (subst (λ f. Classes (SameClass of f) (numbers_below pins) groups) begin classes) in
-      let made : list ≡ record { comps = comps_of block (pins_of block); nets = map (group_net (the_points block) of) groups } =
-      ap (λ c. record { comps = c; nets = list.nets }) (comps ∙ ap (comps_of block) pins_are)
-      ∙ ap (λ n. record { comps = comps_of block (pins_of block); nets = n }) (nets ∙ ap (λ ps. map (group_net ps of) groups) (same_points block points signals_are pins_are)) in
-      subst (IsNetList block) (sym made) (made_list block known of numbers groups told)
+      let made : list ≡ record { comps = comps_with (is_comp block) value; nets = map (group_net (the_points block) of) groups } =
+      ap (λ c. record { comps = c; nets = list.nets }) (comps ∙ ap (λ b. comps_with b value) comp_is)
+      ∙ ap (λ n. record { comps = comps_with (is_comp block) value; nets = n }) (nets ∙ ap (λ ps. map (group_net ps of) groups) (same_points block points signals_are pins_are)) in
+      subst (IsNetList block value) (sym made) (made_list block known of numbers value groups told)
+
+-- whether there is a part, as it is told by numbers
+pub comp_told : (block : Block) (slots pins : ℕ) (points : Points) → slots ≡ slot_count (part_of block.lines) → pins ≡ length points.pins → points.pins ≡ pins_of block
+    → (nat_lt 0 slots || nat_lt 0 pins) ≡ is_comp block
+comp_told block slots pins points h k e =
+    ap (λ n. nat_lt 0 n || nat_lt 0 pins) h ∙ ap (λ n. nat_lt 0 (slot_count (part_of block.lines)) || nat_lt 0 n) (k ∙ ap length e)
+    ∙ ap (λ b. b || nat_lt 0 (length (pins_of block))) (some (part_of block.lines))
+  where
+    some : (part : Option Part) → nat_lt 0 (slot_count part) ≡ is_some part
+    some None = refl
+    some (Some part) = refl

@@ -126,7 +126,7 @@ zip_net block (c ∷ cs) [] z k h = absurd z
 zip_net block (c ∷ cs) (n ∷ ns) z zero h = (n, refl, z.0)
 zip_net block (c ∷ cs) (n ∷ ns) z (suc k) h = zip_net block cs ns z.1 k (omega arith)
 
-module _ (block : Block) (list : NetList) (is : IsNetList block list) where
+module _ (block : Block) (value : List ℕ) (list : NetList) (is : IsNetList block value list) where
   -- a pin that stands in a net stands in the class at its place
   in_class : (label : List ℕ) (place : ℕ) → StandsIn list label place → (place < length is.classes) × Contains (get_or is.classes place []) label
   in_class label place (net, at, pin) =

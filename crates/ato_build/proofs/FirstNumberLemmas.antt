@@ -16,10 +16,10 @@ use Rattle.ato_lexer.specs.declared.first_form.Point.TheVariants.{Signal, Pin}
 use Rattle.ato_lexer.specs.declared.first_form.End.{End}
 use Rattle.ato_lexer.specs.declared.first_form.End.TheVariants.{Name, Declared}
 use Rattle.ato_lexer.specs.declared.first_form.Line.{Line}
-use Rattle.ato_lexer.specs.declared.first_form.Line.TheVariants.{Pass, Declaration, Join}
+use Rattle.ato_lexer.specs.declared.first_form.Line.TheVariants.{Pass, Declaration, Join, Kind, Attribute, Assertion}
 use Rattle.ato_lexer.specs.declared.first_form.Block.{Block}
 use Rattle.ato_build.specs.ClassNumbers.{IsJoin}
-use Rattle.ato_build.specs.FirstPoints.{signal_names, pin_labels, end_points, line_points, lines_points, signals_of, pins_of, end_point, IsJoinedByLine, AreJoined, is_unknown, is_unknown_end, AreKnown}
+use Rattle.ato_build.specs.FirstPoints.{signal_names, pin_labels, end_points, line_points, lines_points, signals_of, pins_of, end_point, IsJoinedByLine, AreJoined, is_unknown_in, is_unknown_end, AreKnown}
 use Rattle.ato_build.specs.FirstJoins.{point_number, line_joins, lines_joins}
 use Rattle.ato_build.specs.declared.first_points.Points.{Points}
 use Rattle.ato_build.proofs.FirstNetLaws.{distinct_same, distinct_once, bytes_eq-flip}
@@ -132,7 +132,7 @@ end_known block (Declared point) h within = declared block point (within point (
 -- The block has the points that its lines join.
 pub ends_known : (block : Block) → AreKnown block → (left right : End) → Contains block.lines (Join left right) → Has block (end_point left) × Has block (end_point right)
 ends_known block known left right h =
-    let fine = or_false (is_unknown_end (signals_of block) left) (is_unknown_end (signals_of block) right) (passes_not (is_unknown (signals_of block)) block.lines (Join left right) known h) in (
+    let fine = or_false (is_unknown_end (signals_of block) left) (is_unknown_end (signals_of block) right) (passes_not (is_unknown_in block) block.lines (Join left right) known h) in (
       end_known block left fine.0 (λ point m. in_flat line_points block.lines (Join left right) point h (Contains-append_left (end_points left) (end_points right) point m)),
       end_known block right fine.1 (λ point m. in_flat line_points block.lines (Join left right) point h (Contains-append_right (end_points left) (end_points right) point m)),
     )
@@ -190,6 +190,9 @@ join_line : (points : Points) (lines : List Line) (i j : ℕ) → Contains (line
 join_line points [] i j h = absurd (nowhere (i, j) h)
 join_line points (Pass ∷ lines) i j h = let m = join_line points lines i j h in (m.0, m.1, later Pass (Join m.0 m.1) lines m.2, m.3, m.4)
 join_line points (Declaration point ∷ lines) i j h = let m = join_line points lines i j h in (m.0, m.1, later (Declaration point) (Join m.0 m.1) lines m.2, m.3, m.4)
+join_line points (Kind text ∷ lines) i j h = let m = join_line points lines i j h in (m.0, m.1, later (Kind text) (Join m.0 m.1) lines m.2, m.3, m.4)
+join_line points (Attribute name ∷ lines) i j h = let m = join_line points lines i j h in (m.0, m.1, later (Attribute name) (Join m.0 m.1) lines m.2, m.3, m.4)
+join_line points (Assertion asserted ∷ lines) i j h = let m = join_line points lines i j h in (m.0, m.1, later (Assertion asserted) (Join m.0 m.1) lines m.2, m.3, m.4)
 join_line points (Join left right ∷ lines) i j h =
     elim (cases (point_number points (end_point left), point_number points (end_point right)) (i, j) (lines_joins points lines) h) [
       | inl e ↦ (left, right, first (Join left right) lines, ap (λ p. p.0) e, ap (λ p. p.1) e)

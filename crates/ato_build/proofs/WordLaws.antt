@@ -1,10 +1,9 @@
 -- The words of a build determine it.
 use Rattle.std.proofs.Common.{◌≡◌, ℕ, ◌==◌, Bool, true, false, not, ◌||◌, ◌&&◌, List, [], ◌∷◌, ◌++◌, ap, sym, ◌∙◌, refl, arith}
-use Rattle.std.specs.Prelude.{codes}
+use Rattle.std.specs.Prelude.{codes, unwrap_or}
 use Rattle.std.specs.List.{list_any}
-use Rattle.ato_build.specs.Words.{are_parts, IsBuild, IsNoJob}
+use Rattle.ato_build.specs.Words.{are_parts, IsBuildOf, IsBuild, line_of, default_out}
 use Rattle.ato_build.specs.declared.words.Build.{Build}
-use Rattle.ato_build.specs.declared.words.Task.TheVariants as tasks
 
 -- both parts of a test that holds
 pub and_true : (a b : Bool) → (a && b) ≡ true → (a ≡ true) × (b ≡ true)
@@ -50,19 +49,19 @@ same_parts out file block f b catalogue e none h = one_cut 58 file block f b e (
 abbrev build_of : List ℕ → List ℕ → List ℕ → List ℕ → ℕ → Build
 build_of file block catalogue out steps = record { file = file; block = block; catalogue = catalogue; out = out; steps = steps }
 
--- Words are a build in one way.
-pub one_build : (words : List (List ℕ)) (a b : Build) → IsBuild words a → IsBuild words b → a ≡ b
-one_build words a b p q =
+-- Positional words are a build in one way.
+pub one_build_of : (words : List (List ℕ)) (out : List ℕ) (a b : Build) → IsBuildOf words out a → IsBuildOf words out b → a ≡ b
+one_build_of words out a b p q =
     let both : codes "build" ∷ (a.file ++ 58 ∷ a.block) ∷ a.catalogue ∷ [] ≡ codes "build" ∷ (b.file ++ 58 ∷ b.block) ∷ b.catalogue ∷ [] = sym p.words_are ∙ q.words_are in
     let entries : a.file ++ 58 ∷ a.block ≡ b.file ++ 58 ∷ b.block = cc in
     let catalogues : a.catalogue ≡ b.catalogue = cc in
     let sides = one_cut 58 a.file a.block b.file b.block entries (block_lacks a.out a.file a.block a.catalogue p.parts) (block_lacks b.out b.file b.block b.catalogue q.parts) in
     ap (λ f. build_of f a.block a.catalogue a.out a.steps) sides.0
-    ∙ ap (λ l. build_of b.file l a.catalogue a.out a.steps) sides.1
-    ∙ ap (λ l. build_of b.file b.block l a.out a.steps) catalogues
-    ∙ ap (λ o. build_of b.file b.block b.catalogue o a.steps) (p.out ∙ sym q.out)
-    ∙ ap (λ n. build_of b.file b.block b.catalogue b.out n) (p.steps ∙ sym q.steps)
+    ∙ ap (λ k. build_of b.file k a.catalogue a.out a.steps) sides.1
+    ∙ ap (λ c. build_of b.file b.block c a.out a.steps) catalogues
+    ∙ ap (λ o. build_of b.file b.block b.catalogue o a.steps) (p.out_is ∙ sym q.out_is)
+    ∙ ap (build_of b.file b.block b.catalogue b.out) (p.steps ∙ sym q.steps)
 
--- Words that are no job are no build.
-pub no_build_from : (words : List (List ℕ)) (build : Build) → IsNoJob words → IsBuild words build → ⊥
-no_build_from words build none is = none (tasks.Build build) is
+-- Words are a build in one way.
+pub one_build : (words : List (List ℕ)) (a b : Build) → IsBuild words a → IsBuild words b → a ≡ b
+one_build words a b p q = one_build_of (line_of words).positional (unwrap_or (line_of words).out default_out) a b p.of q.of

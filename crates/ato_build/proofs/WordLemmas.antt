@@ -1,13 +1,12 @@
-use Rattle.std.proofs.Common.{◌≡◌, ℕ, ◌<◌, ◌≢◌, ◌+◌, ◌==◌, suc, Bool, true, false, not, ◌||◌, List, [], ◌∷◌, ◌++◌, length, take, drop, get_or, ap, sym, ◌∙◌, refl, arith, take-append-drop, get_or-drop, length-drop, drop-cons, add-one}
-use Rattle.std.specs.Prelude.{String, string_bytes, codes}
+use Rattle.std.proofs.Common.{◌≡◌, ℕ, ◌<◌, ◌≢◌, ◌+◌, ◌==◌, suc, Bool, true, false, not, List, [], ◌∷◌, ◌++◌, length, take, drop, get_or, ap, sym, ◌∙◌, refl, arith, take-append-drop, get_or-drop, length-drop, drop-cons, add-one}
+use Rattle.std.specs.Prelude.{codes}
 use Rattle.std.specs.List.{list_any, slice_range}
 use Rattle.std.specs.Str.{bytes_eq}
-use Rattle.std.specs.declared.alloc.Global.{Global}
 use Rattle.std.proofs.lemmas.Bool.{ne_eqb}
-use Rattle.std.proofs.lemmas.List.{length-map}
 use Rattle.std.proofs.lemmas.Slice.Eq.{bytes_eq-Decides}
-use Rattle.ato_build.specs.Words.{texts, are_parts, begins_with_dash, IsNoJob}
-use Rattle.ato_build.specs.declared.words.Task.TheVariants as tasks
+use Rattle.ato_build.specs.PlainNames.{is_plain}
+use Rattle.ato_build.specs.Words.{are_parts, IsBuildOf}
+use Rattle.ato_build.specs.declared.words.Build.{Build}
 use Rattle.ato_build.proofs.WordLaws.{has, same_parts}
 
 -- a list at one of its indices
@@ -33,22 +32,17 @@ cut_parts xs a b k p q r =
     let front : a ≡ take k xs = p ∙ all in
     (cut_at xs k 58 r.0 r.1 ∙ ap (λ l. l ++ 58 ∷ drop (k + 1) xs) (sym front) ∙ ap (λ l. a ++ 58 ∷ l) (sym q), ap (list_any (λ n. n == 58)) q ∙ rest_lacks 58 xs k r.0 r.2)
 
--- the bytes of three words
-pub texts_three : (xs : List (String Global)) (a b c : String Global) → length xs ≡ 3 → a ≡ get_or xs 0 a → b ≡ get_or xs 1 b → c ≡ get_or xs 2 c → texts xs ≡ string_bytes a ∷ string_bytes b ∷ string_bytes c ∷ []
-texts_three [] a b c h p q r = absurd (omega arith)
-texts_three (x ∷ []) a b c h p q r = absurd (omega arith)
-texts_three (x ∷ y ∷ []) a b c h p q r = absurd (omega arith)
-texts_three (x ∷ y ∷ z ∷ []) a b c h p q r = cc
-texts_three (x ∷ y ∷ z ∷ w ∷ ws) a b c h p q r = absurd (omega arith)
+-- three texts
+pub three_texts : (xs : List (List ℕ)) (a b c : List ℕ) → length xs ≡ 3 → a ≡ get_or xs 0 a → b ≡ get_or xs 1 b → c ≡ get_or xs 2 c → xs ≡ a ∷ b ∷ c ∷ []
+three_texts [] a b c h p q r = absurd (omega arith)
+three_texts (x ∷ []) a b c h p q r = absurd (omega arith)
+three_texts (x ∷ y ∷ []) a b c h p q r = absurd (omega arith)
+three_texts (x ∷ y ∷ z ∷ []) a b c h p q r = cc
+three_texts (x ∷ y ∷ z ∷ w ∷ ws) a b c h p q r = absurd (omega arith)
 
--- another number of words
-pub texts_not_three : (xs : List (String Global)) → length xs ≢ 3 → (a b c : List ℕ) → texts xs ≡ a ∷ b ∷ c ∷ [] → ⊥
-texts_not_three xs h a b c e = h (sym (length-map xs string_bytes) ∙ ap length e)
-
--- a test of the words' bytes
-pub any_text : (p : List ℕ → Bool) (xs : List (String Global)) → list_any p (texts xs) ≡ list_any (λ x. p (string_bytes x)) xs
-any_text p [] = refl
-any_text p (x ∷ xs) = ap (λ b. p (string_bytes x) || b) (any_text p xs)
+-- another number of texts
+pub not_three_texts : (xs : List (List ℕ)) → length xs ≢ 3 → (a b c : List ℕ) → xs ≡ a ∷ b ∷ c ∷ [] → ⊥
+not_three_texts xs h a b c e = h (ap length e)
 
 -- an entry whose division at the last colon gives no parts has none
 pub no_parts : (entry f b out catalogue : List ℕ) → entry ≡ f ++ 58 ∷ b → are_parts out f b catalogue ≡ false → list_any (λ n. n == 58) b ≡ false → (file block : List ℕ) → entry ≡ file ++ 58 ∷ block → are_parts out file block catalogue ≡ true → ⊥
@@ -62,26 +56,26 @@ pub no_colon : (entry out catalogue : List ℕ) → list_any (λ n. n == 58) ent
 no_colon entry out catalogue none file block e h =
     let yes : list_any (λ n. n == 58) entry ≡ true = ap (list_any (λ n. n == 58)) e ∙ has 58 file block in cc
 
--- words of which one begins with a dash are no job
-pub option_no_job : (words : List (List ℕ)) → list_any begins_with_dash words ≡ true → IsNoJob words
-option_no_job words h (tasks.Build build) job = let bad : true ≡ false = sym h ∙ job.positional in cc
+-- other than three words are no build
+pub count_no_build : (words : List (List ℕ)) (out : List ℕ) → ((a b c : List ℕ) → words ≡ a ∷ b ∷ c ∷ [] → ⊥) → (build : Build) → IsBuildOf words out build → ⊥
+count_no_build words out none build job = none _ _ _ job.words_are
 
--- other than three words are no job
-pub count_no_job : (words : List (List ℕ)) → ((a b c : List ℕ) → words ≡ a ∷ b ∷ c ∷ [] → ⊥) → IsNoJob words
-count_no_job words none (tasks.Build build) job = none _ _ _ job.words_are
+-- another command is no build
+pub command_no_build : (words : List (List ℕ)) (out a b c : List ℕ) → words ≡ a ∷ b ∷ c ∷ [] → a ≢ codes "build" → (build : Build) → IsBuildOf words out build → ⊥
+command_no_build words out a b c is other build job = other (let both : a ∷ b ∷ c ∷ [] ≡ codes "build" ∷ (build.file ++ 58 ∷ build.block) ∷ build.catalogue ∷ [] = sym is ∙ job.words_are in cc)
 
--- another command is no job
-pub command_no_job : (words : List (List ℕ)) (a b c : List ℕ) → words ≡ a ∷ b ∷ c ∷ [] → a ≢ codes "build" → IsNoJob words
-command_no_job words a b c is other (tasks.Build build) job = other (let both : a ∷ b ∷ c ∷ [] ≡ codes "build" ∷ (build.file ++ 58 ∷ build.block) ∷ build.catalogue ∷ [] = sym is ∙ job.words_are in cc)
+-- words for a name that is not plain are no build
+pub out_no_build : (words : List (List ℕ)) (out : List ℕ) → is_plain out ≡ false → (build : Build) → IsBuildOf words out build → ⊥
+out_no_build words out bad build job = let yes : is_plain out ≡ true = ap is_plain (sym job.out_is) ∙ job.plain in let wrong : ⊥ = cc in wrong
 
--- words whose entry has no parts are no job
-pub entry_no_job : (words : List (List ℕ)) (a b c : List ℕ) → words ≡ a ∷ b ∷ c ∷ [] → ((file block : List ℕ) → b ≡ file ++ 58 ∷ block → are_parts (codes "out") file block c ≡ true → ⊥) → IsNoJob words
-entry_no_job words a b c is none (tasks.Build build) job =
+-- words whose entry has no parts are no build
+pub entry_no_build : (words : List (List ℕ)) (out a b c : List ℕ) → words ≡ a ∷ b ∷ c ∷ [] → ((file block : List ℕ) → b ≡ file ++ 58 ∷ block → are_parts out file block c ≡ true → ⊥) → (build : Build) → IsBuildOf words out build → ⊥
+entry_no_build words out a b c is none build job =
     let both : a ∷ b ∷ c ∷ [] ≡ codes "build" ∷ (build.file ++ 58 ∷ build.block) ∷ build.catalogue ∷ [] = sym is ∙ job.words_are in
     let entry : b ≡ build.file ++ 58 ∷ build.block = cc in
     let last : c ≡ build.catalogue = cc in
     none build.file build.block entry
-    (ap (λ o. are_parts o build.file build.block c) (sym job.out) ∙ ap (λ l. are_parts build.out build.file build.block l) last ∙ job.parts)
+    (ap (λ o. are_parts o build.file build.block c) (sym job.out_is) ∙ ap (λ l. are_parts build.out build.file build.block l) last ∙ job.parts)
 
 not_false : (a : Bool) → not a ≡ false → a ≡ true
 not_false true h = refl
@@ -93,7 +87,3 @@ build_words words a b c file block r is differs same sides =
     let tested : not (bytes_eq a (codes "build")) ≡ false = sym differs ∙ same in
     let command : a ≡ codes "build" = (bytes_eq-Decides a (codes "build")).0 (not_false _ tested) in
     is ∙ ap (λ x. x ∷ b ∷ c ∷ []) command ∙ ap (λ x. codes "build" ∷ x ∷ c ∷ []) sides
-
--- no word begins with a dash
-pub no_option : (words : List (String Global)) (r : Bool) → r ≡ list_any (λ word. begins_with_dash (string_bytes word)) words → r ≡ false → list_any begins_with_dash (texts words) ≡ false
-no_option words r is none = any_text begins_with_dash words ∙ sym is ∙ none

@@ -5,7 +5,7 @@ use Rattle.ato_base.specs.NameTable.{with_name, number_of}
 use Rattle.ato_lexer.specs.declared.first_form.Point.{Point}
 use Rattle.ato_lexer.specs.declared.first_form.Point.TheVariants.{Signal, Pin}
 use Rattle.ato_lexer.specs.declared.first_form.Line.{Line}
-use Rattle.ato_lexer.specs.declared.first_form.Line.TheVariants.{Pass, Declaration, Join}
+use Rattle.ato_lexer.specs.declared.first_form.Line.TheVariants.{Pass, Declaration, Join, Kind, Attribute, Assertion}
 use Rattle.ato_build.specs.FirstPoints.{signal_names, pin_labels, end_point}
 use Rattle.ato_build.specs.declared.first_points.Points.{Points}
 
@@ -28,6 +28,9 @@ abbrev pub line_joins : Points → Line → List (ℕ × ℕ)
 line_joins points Pass = []
 line_joins points (Declaration point) = []
 line_joins points (Join left right) = (point_number points (end_point left), point_number points (end_point right)) ∷ []
+line_joins points (Kind text) = []
+line_joins points (Attribute name) = []
+line_joins points (Assertion asserted) = []
 
 -- the numbers that lines join, in their order
 abbrev pub lines_joins : Points → List Line → List (ℕ × ℕ)

@@ -1,5 +1,5 @@
 -- The net list of a block of the first form.
-use Rattle.std.specs.Prelude.{◌≡◌, ℕ, List, [], ◌∷◌, ◌++◌, map, All, Contains, Some, codes}
+use Rattle.std.specs.Prelude.{◌≡◌, ℕ, Bool, ◌||◌, if◌then◌else◌, nat_lt, is_some, List, [], ◌∷◌, ◌++◌, length, map, All, Contains, Some, codes}
 use Rattle.std.specs.List.{AllZip, slice_get}
 use Rattle.ato_base.specs.Classes.{Classes}
 use Rattle.ato_base.specs.declared.nets.Comp.{Comp}
@@ -8,6 +8,7 @@ use Rattle.ato_base.specs.declared.nets.Net.{Net}
 use Rattle.ato_base.specs.declared.nets.NetList.{NetList}
 use Rattle.ato_lexer.specs.declared.first_form.Point.TheVariants.{Signal, Pin}
 use Rattle.ato_lexer.specs.declared.first_form.Block.{Block}
+use Rattle.ato_build.specs.FirstParts.{part_of}
 use Rattle.ato_build.specs.FirstPoints.{AreJoined, signals_of, pins_of}
 
 -- a pin of the one part
@@ -26,14 +27,18 @@ abbrev pub IsNet : Block → List (List ℕ) → Net → Type 0
 IsNet block [] net = ⊥
 IsNet block (label ∷ labels) net = IsNetName block label net.name × (net.pins ≡ map net_pin (label ∷ labels))
 
--- The block is the one part, where it has a pin.
-abbrev pub comps_of : Block → List (List ℕ) → List Comp
-comps_of block [] = []
-comps_of block (label ∷ labels) = record { designator = codes "U1"; value = block.name; footprint = []; path = [] } ∷ []
+-- The block is a part where it has a pin, or describes a part that is picked.
+abbrev pub is_comp : Block → Bool
+is_comp block = is_some (part_of block.lines) || nat_lt 0 (length (pins_of block))
 
--- The net list of a block: its nets are the classes of joined pins, in the order of their first pins.
-pub record IsNetList (block : Block) (list : NetList) : Type 0 where
-  pub comps : list.comps ≡ comps_of block (pins_of block)
+-- the one part, where there is one, with what stands for it in the netlist
+abbrev pub comps_with : Bool → List ℕ → List Comp
+comps_with is_comp value = if is_comp then record { designator = codes "U1"; value = value; footprint = []; path = [] } ∷ [] else []
+
+-- The net list of a block, with what stands for its part: its nets are the classes of joined pins, in the order of their
+-- first pins.
+pub record IsNetList (block : Block) (value : List ℕ) (list : NetList) : Type 0 where
+  pub comps : list.comps ≡ comps_with (is_comp block) value
   pub classes : List (List (List ℕ))
   pub are_classes : Classes (λ a b. AreJoined block (Pin a) (Pin b)) (pins_of block) classes
   pub nets : AllZip (IsNet block) classes list.nets

@@ -1,5 +1,5 @@
--- The points of a block of the first form, which of them are joined, and the first end that is no signal.
-use Rattle.std.specs.Prelude.{◌≡◌, ℕ, Bool, true, false, ◌||◌, not, List, [], ◌∷◌, ◌++◌, length, filter, Contains}
+-- The points of a block of the first form, which of them are joined, and the first name that is no signal or attribute.
+use Rattle.std.specs.Prelude.{◌≡◌, ℕ, Bool, true, false, ◌||◌, not, List, [], ◌∷◌, ◌++◌, length, filter, Contains, Option, Some, None}
 use Rattle.std.specs.List.{list_any, flat_map}
 use Rattle.std.specs.Str.{bytes_eq}
 use Rattle.ato_base.specs.Joined.{Joined}
@@ -9,7 +9,8 @@ use Rattle.ato_lexer.specs.declared.first_form.Point.TheVariants.{Signal, Pin}
 use Rattle.ato_lexer.specs.declared.first_form.End.{End}
 use Rattle.ato_lexer.specs.declared.first_form.End.TheVariants.{Name, Declared}
 use Rattle.ato_lexer.specs.declared.first_form.Line.{Line}
-use Rattle.ato_lexer.specs.declared.first_form.Line.TheVariants.{Pass, Declaration, Join}
+use Rattle.ato_lexer.specs.declared.first_form.Line.TheVariants.{Pass, Declaration, Join, Kind, Attribute, Assertion}
+use Rattle.ato_lexer.specs.PartLines.{attribute_of}
 use Rattle.ato_lexer.specs.declared.first_form.Block.{Block}
 
 -- each text once, in the order of the first mentions
@@ -26,6 +27,9 @@ abbrev pub line_points : Line → List Point
 line_points Pass = []
 line_points (Declaration point) = point ∷ []
 line_points (Join left right) = end_points left ++ end_points right
+line_points (Kind text) = []
+line_points (Attribute name) = []
+line_points (Assertion asserted) = []
 
 abbrev pub lines_points : List Line → List Point
 lines_points lines = flat_map line_points lines
@@ -62,24 +66,43 @@ IsJoinedByLine block p q = (left right : End) × Contains block.lines (Join left
 abbrev pub AreJoined : Block → Point → Point → Type 0
 AreJoined block p q = Joined (IsJoinedByLine block) p q
 
+-- No such text is there.
+abbrev pub is_absent : List (List ℕ) → List ℕ → Bool
+is_absent texts text = not (list_any (bytes_eq text) texts)
+
+-- The text is another one, or there is none.
+abbrev pub is_other : Option (List ℕ) → List ℕ → Bool
+is_other None text = true
+is_other (Some name) text = not (bytes_eq name text)
+
 -- The end is a name that is no signal.
 abbrev pub is_unknown_end : List (List ℕ) → End → Bool
-is_unknown_end signals (Name name) = not (list_any (bytes_eq name) signals)
+is_unknown_end signals (Name name) = is_absent signals name
 is_unknown_end signals (Declared point) = false
 
--- An end of the line is a name that is no signal.
-abbrev pub is_unknown : List (List ℕ) → Line → Bool
-is_unknown signals Pass = false
-is_unknown signals (Declaration point) = false
-is_unknown signals (Join left right) = is_unknown_end signals left || is_unknown_end signals right
+-- An end of the line is a name that is no signal, or the line asserts something of a name that is not the attribute.
+abbrev pub is_unknown : List (List ℕ) → Option (List ℕ) → Line → Bool
+is_unknown signals attribute Pass = false
+is_unknown signals attribute (Declaration point) = false
+is_unknown signals attribute (Join left right) = is_unknown_end signals left || is_unknown_end signals right
+is_unknown signals attribute (Kind text) = false
+is_unknown signals attribute (Attribute name) = false
+is_unknown signals attribute (Assertion asserted) = is_other attribute asserted.name
 
--- Every name at an end is a signal of the block.
+-- A line of the block mentions a name that is not known there.
+abbrev pub is_unknown_in : Block → Line → Bool
+is_unknown_in block = is_unknown (signals_of block) (attribute_of block.lines)
+
+-- Every name that the lines mention is known.
 abbrev pub AreKnown : Block → Type 0
-AreKnown block = list_any (is_unknown (signals_of block)) block.lines ≡ false
+AreKnown block = list_any (is_unknown_in block) block.lines ≡ false
 
--- The first line with an end that is no signal begins at this byte.
-abbrev pub IsUnknownAt : Block → ℕ → Type 0
-IsUnknownAt block at =
+-- The first line that passes the test begins at this byte.
+abbrev pub IsFirstLineAt : (Line → Bool) → Block → ℕ → Type 0
+IsFirstLineAt test block at =
     (front : List Line) × (line : Line) × (back : List Line) × (block.lines ≡ front ++ line ∷ back)
-    × (list_any (is_unknown (signals_of block)) front ≡ false) × (is_unknown (signals_of block) line ≡ true)
-    × (at ≡ length (lined (head_text block.name) ++ lines_text front))
+    × (list_any test front ≡ false) × (test line ≡ true) × (at ≡ length (lined (head_text block.name) ++ lines_text front))
+
+-- The first line with a name that is not known begins at this byte.
+abbrev pub IsUnknownAt : Block → ℕ → Type 0
+IsUnknownAt block at = IsFirstLineAt (is_unknown_in block) block at

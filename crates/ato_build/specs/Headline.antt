@@ -1,69 +1,91 @@
 -- What `run` promises. The words are the command line, `held` the files that the shelf tells, `old` and `new`
 -- the tray's files before and after, `before` and `now` the sink's bytes before and after.
-use Rattle.std.specs.Prelude.{◌≡◌, ◌⊎◌, ℕ, List, ◌++◌, codes, Option, Result, Ok, Err}
+use Rattle.std.specs.Prelude.{◌≡◌, ◌⊎◌, ℕ, List, Option, Some, None}
 use Rattle.ato_base.specs.declared.faults.Fault.{Fault}
-use Rattle.ato_base.specs.declared.nets.NetList.{NetList}
 use Rattle.ato_lexer.specs.declared.first_form.Block.{Block}
+use Rattle.ato_catalog.specs.Contents.{Contents}
 use Rattle.ato_outside.specs.Files.{Files}
-use Rattle.ato_outside.specs.Tray.{PutsWhereTold}
-use Rattle.ato_outside.specs.declared.tray.TrayError.{TrayError}
 use Rattle.ato_outside.specs.declared.tray.TrayError.TheVariants as tray_errors
-use Rattle.ato_build.specs.Entry.{Entry, HasEntry, source_of, Gives, Stands}
-use Rattle.ato_build.specs.FirstNets.{IsNetList, SharesExactly}
-use Rattle.ato_build.specs.Netlists.{list_text}
+use Rattle.ato_build.specs.Decisions.{IsDecision}
+use Rattle.ato_build.specs.Entry.{source_limit, GivesBlock}
+use Rattle.ato_build.specs.Found.{Found, HasFile, bytes_of}
+use Rattle.ato_build.specs.Input.{Input, HasInput, Gives, Stands}
+use Rattle.ato_build.specs.Outputs.{PutsInOrder}
 use Rattle.ato_build.specs.Printing.{Appends, AppendsPrefix}
-use Rattle.ato_build.specs.Texts.{fault_text, summary_text, read_fault_text, write_fault_text, memory_text, usage_text}
+use Rattle.ato_build.specs.Texts.{fault_text, read_fault_text, write_fault_text, memory_text, usage_text}
 use Rattle.ato_build.specs.Words.{IsBuild, IsNoJob}
+use Rattle.ato_build.specs.declared.outputs.Output.{Output}
+use Rattle.ato_build.specs.declared.outputs.Stop.{Stop}
 use Rattle.ato_build.specs.declared.words.Build.{Build}
 use Rattle.ato_build.specs.declared.status.Status.{Status}
 use Rattle.ato_build.specs.declared.status.Status.TheVariants as answers
 
--- The put of the netlist of the block that the entry gives was answered so. Two pins share a net of it exactly where
--- the lines of the block join them.
-pub record PutsNetlist (words : List (List ℕ)) (held old new : Option Files) (build : Build) (entry : Entry) (block : Block) (list : NetList) (answer : Result (Unit {0}) TrayError) : Type 0 where
+-- The words are a build whose input has no fault, and this is what it decides: its status, the files that it puts, and the
+-- text of its summary.
+pub record Decides (words : List (List ℕ)) (held : Option Files) (status : Status) (outputs : List Output) (summary : List ℕ) : Type 0 where
+  pub build : Build
   pub job : IsBuild words build
-  pub read : HasEntry held build.file entry
-  pub gives : Gives build entry block
-  pub is_list : IsNetList block list
-  pub shares : SharesExactly block list
-  pub put : PutsWhereTold old new (build.out ++ codes ".net") (list_text list) answer
+  pub input : Input
+  pub read : HasInput held build input
+  pub block : Block
+  pub contents : Contents
+  pub gives : Gives build input block contents
+  pub decision : IsDecision build block contents status outputs summary
 
--- The netlist is put whole, and the text is its summary.
-abbrev pub IsBuilt : List (List ℕ) → Option Files → Option Files → Option Files → List ℕ → Type 0
-IsBuilt words held old new text =
-    (build : Build) × (entry : Entry) × (block : Block) × (list : NetList) × PutsNetlist words held old new build entry block list (Ok tt) × (text ≡ summary_text list)
+-- The decided files are put, all of them or those before the one at which the tray stopped.
+pub record PutsDecided (words : List (List ℕ)) (held old new : Option Files) (status : Status) (summary : List ℕ) (stop : Option Stop) : Type 0 where
+  pub outputs : List Output
+  pub decides : Decides words held status outputs summary
+  pub puts : PutsInOrder old new outputs stop
 
--- The fault stands in the entry, nothing is put, and the text is the fault's line.
-abbrev pub IsFaulted : List (List ℕ) → Option Files → Option Files → Option Files → Fault → List ℕ → Type 0
-IsFaulted words held old new f text =
-    (build : Build) × (entry : Entry) × IsBuild words build × HasEntry held build.file entry × Stands build entry f × (new ≡ old) × (text ≡ fault_text build (source_of entry) f)
+-- The fault stands in the input, nothing is put, and the text is the fault's line.
+pub record IsFaulted (words : List (List ℕ)) (held old new : Option Files) (f : Fault) (text : List ℕ) : Type 0 where
+  pub build : Build
+  pub job : IsBuild words build
+  pub input : Input
+  pub read : HasInput held build input
+  pub stands : Stands build input f
+  pub nothing_put : new ≡ old
+  pub text_is : text ≡ fault_text build (bytes_of input.entry) f
 
--- The entry was not read, nothing is put, and the text names the file.
-abbrev pub IsUnread : List (List ℕ) → Option Files → Option Files → List ℕ → Type 0
-IsUnread words old new text = (build : Build) × IsBuild words build × (new ≡ old) × (text ≡ read_fault_text build.file)
+-- The entry was not read, or the catalogue of an entry that gives a block.
+abbrev pub NamesUnread : Option Files → Build → List ℕ → Type 0
+NamesUnread held build text =
+    (text ≡ read_fault_text build.file)
+    ⊎ ((entry : Found) × (block : Block) × HasFile held source_limit build.file entry × GivesBlock build entry block × (text ≡ read_fault_text build.catalogue))
 
--- A prefix of the netlist is put, and the text names its file.
+-- A file was not read, nothing is put, and the text names the file.
+pub record IsUnread (words : List (List ℕ)) (held old new : Option Files) (text : List ℕ) : Type 0 where
+  pub build : Build
+  pub job : IsBuild words build
+  pub unread : NamesUnread held build text
+  pub nothing_put : new ≡ old
+
+-- A decided file was not put: those before it are whole, of it a prefix is put, and the text names it.
 abbrev pub IsUnwritten : List (List ℕ) → Option Files → Option Files → Option Files → List ℕ → Type 0
 IsUnwritten words held old new text =
-    (build : Build) × (entry : Entry) × (block : Block) × (list : NetList) × PutsNetlist words held old new build entry block list (Err tray_errors.Failed)
-    × (text ≡ write_fault_text (build.out ++ codes ".net"))
+    (status : Status) × (summary name : List ℕ) × PutsDecided words held old new status summary (Some (record { name = name; error = tray_errors.Failed }))
+    × (text ≡ write_fault_text name)
 
 -- The words are no job, nothing is put, and the text is the usage.
 abbrev pub IsUsage : List (List ℕ) → Option Files → Option Files → List ℕ → Type 0
 IsUsage words old new text = IsNoJob words × (new ≡ old) × (text ≡ usage_text)
 
--- Memory ran out, nothing is put, and the text says so.
-abbrev pub IsOutOfMemory : Option Files → Option Files → List ℕ → Type 0
-IsOutOfMemory old new text = (new ≡ old) × (text ≡ memory_text)
+-- Memory ran out, and the text says so. Nothing is put, or the decided files before one for which the tray had no memory, whole.
+abbrev pub IsOutOfMemory : List (List ℕ) → Option Files → Option Files → Option Files → List ℕ → Type 0
+IsOutOfMemory words held old new text =
+    ((new ≡ old) ⊎ ((status : Status) × (summary name : List ℕ) × PutsDecided words held old new status summary (Some (record { name = name; error = tray_errors.NoMemory }))))
+    × (text ≡ memory_text)
 
 -- What stands in the tray and which text is to be printed, by status.
 abbrev pub Means : List (List ℕ) → Option Files → Option Files → Option Files → Status → List ℕ → Type 0
-Means words held old new answers.Built text = IsBuilt words held old new text
+Means words held old new answers.Built text = PutsDecided words held old new answers.Built text None
+Means words held old new answers.Refuted text = PutsDecided words held old new answers.Refuted text None
 Means words held old new (answers.Fault f) text = IsFaulted words held old new f text
-Means words held old new answers.ReadFault text = IsUnread words old new text
+Means words held old new answers.ReadFault text = IsUnread words held old new text
 Means words held old new answers.WriteFault text = IsUnwritten words held old new text
 Means words held old new answers.Usage text = IsUsage words old new text
-Means words held old new answers.NoMemory text = IsOutOfMemory old new text
+Means words held old new answers.NoMemory text = IsOutOfMemory words held old new text
 
 -- The text of the status was appended whole.
 abbrev pub Printed : List (List ℕ) → Option Files → Option Files → Option Files → Option (List ℕ) → Option (List ℕ) → Status → Type 0
@@ -73,6 +95,7 @@ Printed words held old new before now status = (text : List ℕ) × Means words 
 -- as the status to which that text belongs has it.
 abbrev pub Headline : List (List ℕ) → Option Files → Option Files → Option Files → Option (List ℕ) → Option (List ℕ) → Status → Type 0
 Headline words held old new before now answers.Built = Printed words held old new before now answers.Built
+Headline words held old new before now answers.Refuted = Printed words held old new before now answers.Refuted
 Headline words held old new before now (answers.Fault f) = Printed words held old new before now (answers.Fault f)
 Headline words held old new before now answers.ReadFault = Printed words held old new before now answers.ReadFault
 Headline words held old new before now answers.WriteFault =
@@ -83,6 +106,7 @@ Headline words held old new before now answers.NoMemory = Printed words held old
 -- A text that tells of a failed read or a failed put belongs to one that failed in this call.
 abbrev pub IsCaused : Type 0 → Type 0 → Status → Type 0
 IsCaused Read Put answers.Built = Unit {0}
+IsCaused Read Put answers.Refuted = Unit {0}
 IsCaused Read Put (answers.Fault f) = Unit {0}
 IsCaused Read Put answers.ReadFault = Read
 IsCaused Read Put answers.WriteFault = Put
@@ -94,5 +118,5 @@ IsCaused Read Put answers.NoMemory = Unit {0}
 -- tells of no failure that did not happen.
 abbrev pub IsToldWriteFault : Type 0 → Type 0 → Type 0 → List (List ℕ) → Option Files → Option Files → Option Files → Option (List ℕ) → Option (List ℕ) → Type 0
 IsToldWriteFault Read Put Print words held old new before now =
-    (Put × Printed words held old new before now answers.WriteFault)
+    (Put × ((text : List ℕ) × IsUnwritten words held old new text × Appends before now text))
     ⊎ (Print × ((status : Status) × (text : List ℕ) × IsCaused Read Put status × Means words held old new status text × AppendsPrefix before now text))

@@ -40,9 +40,20 @@ unfoldable pub fault_text : Build → List ℕ → Fault → List ℕ
 fault_text build source f =
     codes "fault F" ++ (decimal (kind_number f.kind) ++ (codes " " ++ (kind_name f.kind ++ (codes " " ++ (place_text build source f.at ++ codes "\n")))))
 
--- what is printed once a net list is put
-unfoldable pub summary_text : NetList → List ℕ
-summary_text list = codes "result built\nnets " ++ (decimal (length list.nets) ++ (codes "\nparts " ++ (decimal (length list.comps) ++ codes "\n")))
+-- what is printed of a verdict: how many nets and parts the net list has
+unfoldable pub verdict_text : List ℕ → NetList → List ℕ
+verdict_text verdict list =
+    codes "result " ++ (verdict ++ (codes "\nnets " ++ (decimal (length list.nets) ++ (codes "\nparts " ++ (decimal (length list.comps) ++ codes "\n")))))
+
+-- how many slots, variables and checks there are, how many ranges were given, and how many nodes the certificate has. Each slot has
+-- one variable and one check.
+unfoldable pub problem_text : ℕ → ℕ → List ℕ
+problem_text slots nodes =
+    codes "slots " ++ (decimal slots ++ (codes "\nvariables " ++ (decimal slots ++ (codes "\nchecks " ++ (decimal slots ++ (codes "\ngiven 0\nnodes " ++ (decimal nodes ++ codes "\n")))))))
+
+-- the summary of what was decided
+unfoldable pub summary_text : List ℕ → NetList → ℕ → ℕ → List ℕ
+summary_text verdict list slots nodes = verdict_text verdict list ++ problem_text slots nodes
 
 unfoldable pub read_fault_text : List ℕ → List ℕ
 read_fault_text file = codes "read fault " ++ (file ++ codes "\n")
@@ -60,7 +71,7 @@ usage_text = codes "usage: ato build ENTRY CATALOGUE [--steps N] [--out NAME]\n 
 abbrev pub said_text : Said → List ℕ
 said_text (said.Text text) = string_bytes text
 said_text said.OutOfMemory = memory_text
-said_text (said.WriteFault file) = write_fault_text (string_bytes file)
+said_text (said.WriteFault file) = write_fault_text file
 
 -- The place lies in the source.
 abbrev pub LiesWithin : List ℕ → Place → Type 0

@@ -1,4 +1,5 @@
 use crate::Status;
+use ato_base::Text;
 
 /// What is printed at the end of a run.
 #[derive(Debug, Drop)]
@@ -8,7 +9,7 @@ pub(crate) enum Said {
     /// The line for want of memory.
     OutOfMemory,
     /// The line for a file that could not be put, with its name.
-    WriteFault(String),
+    WriteFault(Text),
 }
 
 /// How a run ends, unless its print fails.

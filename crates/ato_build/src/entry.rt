@@ -1,11 +1,16 @@
-ghost use Rattle.std.specs.Prelude.{◌≡◌, ◌≤◌, ◌<◌, ◌^◌, IfOk, IfErr, MatchOption, length};
-ghost use Rattle.ato_lexer.specs.FirstForm.{block_text};
+//! The source of the entry file as a block, or its first fault.
+ghost use Rattle.std.specs.Prelude.{◌≡◌, ◌+◌, ◌≤◌, ◌<◌, ◌^◌, IfOk, IfErr, MatchOption, length};
+ghost use Rattle.ato_lexer.specs.FirstForm.{block_text, IsFront};
 ghost use Rattle.ato_build.specs.FirstPoints.{AreKnown, IsUnknownAt};
-ghost use Rattle.ato_build.specs.Entry.{Whole, word_fault, member_fault, source_limit, Gives, IsRefused};
+ghost use Rattle.ato_build.specs.FirstParts.{HasRanges, IsEmptyAt};
+ghost use Rattle.ato_build.specs.Found.{Whole};
+ghost use Rattle.ato_build.specs.Entry.{word_fault, line_fault, source_limit, GivesBlock, IsLineFault, IsRefused};
 
 use crate::Build;
 use crate::first_block::read_block;
-use crate::first_points::{points_of, unknown_at};
+use crate::first_lines::{EmptyRange, UnknownName, first_line};
+use crate::first_parts::attribute_of;
+use crate::first_points::points_of;
 use ato_base::{Fault, FaultKind, FileId, List, NameTable, NoMemory, Place, Refusal, Span};
 use ato_lexer::{Block, lex};
 use std::alloc::Global;
@@ -25,12 +30,12 @@ pub(crate) fn word_fault(alloc: Global, kind: FaultKind, word: u32) -> Fault
     }
 }
 
-/// The fault of a join's end that is no signal, in the line at a byte of the entry file.
-fn member_fault(alloc: Global, at: u32) -> Fault
-    ensures { result ≡ member_fault at }
+/// A fault in the line at a byte of the entry file.
+fn line_fault(alloc: Global, kind: FaultKind, at: u32) -> Fault
+    ensures { result ≡ line_fault kind at }
 {
     Fault {
-        kind: FaultKind::NoSuchMember,
+        kind,
         at: Place::Source(Span {
             file: ENTRY_FILE,
             start: at,
@@ -41,24 +46,63 @@ fn member_fault(alloc: Global, at: u32) -> Fault
     }
 }
 
-/// Where the first line of a block begins that has an end which is no signal.
-fn unknown_line(alloc: Global, block: &Block) -> Result<Option<u32>, NoMemory>
+/// Where the lines of a block begin.
+fn lines_start(block: &Block) -> usize
     requires { length (block_text block.now) < 2 ^ 32 }
+    ensures { result ≡ 12 + length block.now.name }
+{
+    12 + block.name.as_str().len()
+}
+
+/// Where the first line of a block begins that mentions a name which is not known.
+fn unknown_line(alloc: Global, block: &Block) -> Result<Option<u32>, NoMemory>
+    requires front { IsFront block.now }
+    requires size { length (block_text block.now) < 2 ^ 32 }
     ensures { IfOk result (λ found. MatchOption found (AreKnown block.now) (IsUnknownAt block.now)) }
 {
     let lines = block.lines.as_slice();
     let points = points_of(alloc, lines)?;
-    let start = 12 + block.name.as_str().len();
-    match unknown_at(&points.signals, lines, start) {
+    let unknown = UnknownName {
+        signals: &points.signals,
+        attribute: attribute_of(lines),
+    };
+    match first_line(&unknown, lines, lines_start(block)) {
         None => Ok(None),
         Some(at) => Ok(Some(at as u32)),
+    }
+}
+
+/// Where the first line of a block begins that asserts a range without a value.
+fn empty_line(block: &Block) -> Option<u32>
+    requires front { IsFront block.now }
+    requires size { length (block_text block.now) < 2 ^ 32 }
+    ensures { MatchOption result (HasRanges block.now) (IsEmptyAt block.now) }
+{
+    match first_line(&EmptyRange, block.lines.as_slice(), lines_start(block)) {
+        None => None,
+        Some(at) => Some(at as u32),
+    }
+}
+
+/// The first fault in the lines of a block, if there is one.
+fn first_fault(alloc: Global, block: &Block) -> Result<Option<Fault>, NoMemory>
+    requires front { IsFront block.now }
+    requires size { length (block_text block.now) < 2 ^ 32 }
+    ensures { IfOk result (λ found. MatchOption found (AreKnown block.now × HasRanges block.now) (IsLineFault block.now)) }
+{
+    if let Some(at) = unknown_line(alloc, block)? {
+        return Ok(Some(line_fault(alloc, FaultKind::NoSuchMember, at)));
+    }
+    match empty_line(block) {
+        None => Ok(None),
+        Some(at) => Ok(Some(line_fault(alloc, FaultKind::EmptyRange, at))),
     }
 }
 
 /// The block that a build asks for, in the source of its entry file.
 pub(crate) fn block_of(alloc: Global, build: &Build, source: &[u8]) -> Result<Block, Refusal>
     requires { length source.now ≤ source_limit }
-    ensures gives { IfOk result (Gives build.now (Whole source.now)) }
+    ensures gives { IfOk result (GivesBlock build.now (Whole source.now)) }
     ensures refused { IfErr result (IsRefused build.now (Whole source.now)) }
 {
     let mut names = NameTable::new(alloc)?;
@@ -69,8 +113,8 @@ pub(crate) fn block_of(alloc: Global, build: &Build, source: &[u8]) -> Result<Bl
     if block.name.as_str() != build.block.as_str() {
         return Err(Refusal::Fault(word_fault(alloc, FaultKind::NameUnknown, 1)));
     }
-    match unknown_line(alloc, &block)? {
+    match first_fault(alloc, &block)? {
         None => Ok(block),
-        Some(at) => Err(Refusal::Fault(member_fault(alloc, at))),
+        Some(fault) => Err(Refusal::Fault(fault)),
     }
 }

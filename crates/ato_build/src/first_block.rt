@@ -1,13 +1,13 @@
-ghost use Rattle.std.specs.Prelude.{◌≡◌, ◌∷◌, ◌++◌, [], IfOk, List, ℕ, Option, All};
+ghost use Rattle.std.specs.Prelude.{◌≡◌, ◌≤◌, ◌∷◌, ◌++◌, [], IfOk, List, ℕ, Option, All, length};
 ghost use Rattle.std.specs.Str.{IsAscii};
 ghost use Rattle.ato_base.specs.declared.places.FileId.{FileId};
 ghost use Rattle.ato_lexer.specs.declared.first_form.Block.{Block};
 ghost use Rattle.ato_lexer.specs.FirstForm.{IsFile};
 ghost use Rattle.ato_lexer.specs.FirstTokens.{AreTokens};
-ghost use Rattle.ato_build.specs.FirstBlock.{IsWithin, spelled_text, between, end_of, closed, keyword_step, mark_step, text_step, kind_step, tokens_read};
+ghost use Rattle.ato_build.specs.FirstBlock.{IsWithin, IsPlaced, spelled_text, between, body_tokens, end_of, word_of, declared, closed, keyword_step, mark_step, text_step, kind_step, tokens_read};
 
 use ato_base::{Keyword, List, Mark, NoMemory, Span, Text, Token, TokenKind};
-use ato_lexer::{Block, End, Line, Point};
+use ato_lexer::{Assertion, Block, End, Line, Point};
 use std::alloc::Global;
 
 /// What the next name or number of a line is.
@@ -19,6 +19,8 @@ pub(crate) enum Opening {
     Signal,
     /// The label of a pin.
     Pin,
+    /// The greatest value that an assertion allows.
+    Limit,
 }
 
 /// What was read of a file so far: its lines, and the ends of the line that is being read.
@@ -68,7 +70,36 @@ fn end_of(opening: Opening, text: Text) -> End
         Opening::Bare => End::Name(text),
         Opening::Signal => End::Declared(Point::Signal(text)),
         Opening::Pin => End::Declared(Point::Pin(text)),
+        Opening::Limit => End::Name(text),
     }
+}
+
+/// The name or number that an end is.
+fn word_of(alloc: Global, end: Option<End>) -> Text
+    ensures { result ≡ word_of end }
+{
+    match end {
+        None => Text::new(alloc),
+        Some(end) => match end {
+            End::Name(text) => text,
+            End::Declared(_) => Text::new(alloc),
+        },
+    }
+}
+
+/// The lines after the declaration of an attribute.
+fn declared(name: Option<End>, lines: List<Line>) -> Result<List<Line>, NoMemory>
+    ensures { IfOk result (λ after. after ≡ declared name lines) }
+{
+    let mut lines = lines;
+    match name {
+        None => {}
+        Some(end) => match end {
+            End::Name(name) => lines.push(Line::Attribute(name))?,
+            End::Declared(_) => {}
+        },
+    }
+    Ok(lines)
 }
 
 /// The lines after one whose ends are these.
@@ -98,7 +129,7 @@ fn keyword_step(reading: Reading, keyword: Keyword) -> Result<Reading, NoMemory>
     let Reading {
         opening: _,
         left,
-        right: _,
+        right,
         mut lines,
     } = reading;
     match keyword {
@@ -118,12 +149,24 @@ fn keyword_step(reading: Reading, keyword: Keyword) -> Result<Reading, NoMemory>
             right: None,
             lines,
         }),
+        Keyword::Within => Ok(Reading {
+            opening: Opening::Bare,
+            left: right,
+            right: None,
+            lines,
+        }),
+        Keyword::To => Ok(Reading {
+            opening: Opening::Limit,
+            left,
+            right,
+            lines,
+        }),
         _ => Ok(between(lines)),
     }
 }
 
-fn mark_step(reading: Reading, mark: Mark) -> Reading
-    ensures { result ≡ mark_step reading mark }
+fn mark_step(reading: Reading, mark: Mark) -> Result<Reading, NoMemory>
+    ensures { IfOk result (λ after. after ≡ mark_step reading mark) }
 {
     let Reading {
         opening: _,
@@ -132,31 +175,57 @@ fn mark_step(reading: Reading, mark: Mark) -> Reading
         lines,
     } = reading;
     match mark {
-        Mark::Tilde => Reading {
+        Mark::Tilde => Ok(Reading {
             opening: Opening::Bare,
             left: right,
             right: None,
             lines,
-        },
-        _ => between(lines),
+        }),
+        Mark::Colon => Ok(between(declared(right, lines)?)),
+        _ => Ok(between(lines)),
     }
 }
 
-fn text_step(reading: Reading, text: Text) -> Reading
-    ensures { result ≡ text_step reading text }
+/// The lines after an assertion.
+fn asserted(lines: List<Line>, name: Text, low: Text, high: Text) -> Result<List<Line>, NoMemory>
+    ensures { IfOk result (λ after. after ≡ lines ++ Line.Assertion (record { name = name; low = low; high = high }) ∷ []) }
+{
+    let mut lines = lines;
+    lines.push(Line::Assertion(Assertion { name, low, high }))?;
+    Ok(lines)
+}
+
+fn text_step(alloc: Global, reading: Reading, text: Text) -> Result<Reading, NoMemory>
+    ensures { IfOk result (λ after. after ≡ text_step reading text) }
 {
     let Reading {
         opening,
         left,
-        right: _,
+        right,
         lines,
     } = reading;
-    Reading {
-        opening: Opening::Bare,
-        left,
-        right: Some(end_of(opening, text)),
-        lines,
+    match opening {
+        Opening::Limit => {
+            let name = word_of(alloc, left);
+            let low = word_of(alloc, right);
+            Ok(between(asserted(lines, name, low, text)?))
+        }
+        _ => Ok(Reading {
+            opening: Opening::Bare,
+            left,
+            right: Some(end_of(opening, text)),
+            lines,
+        }),
     }
+}
+
+/// What is read after the text of a kind.
+fn kind_step(reading: Reading, text: Text) -> Result<Reading, NoMemory>
+    ensures { IfOk result (λ after. after ≡ between (reading.lines ++ Line.Kind text ∷ [])) }
+{
+    let mut lines = reading.lines;
+    lines.push(Line::Kind(text))?;
+    Ok(between(lines))
 }
 
 fn newline_step(reading: Reading) -> Result<Reading, NoMemory>
@@ -174,16 +243,17 @@ fn newline_step(reading: Reading) -> Result<Reading, NoMemory>
 /// What is read after one more token.
 fn step(alloc: Global, source: &[u8], reading: Reading, token: Token) -> Result<Reading, NoMemory>
     requires ascii { IsAscii source.now }
-    requires within { IsWithin source.now token.at }
+    requires placed { IsPlaced source.now token }
     ensures { IfOk result (λ after. after ≡ kind_step source.now reading token.kind token.at) }
 {
     match token.kind {
         TokenKind::Keyword(keyword) => keyword_step(reading, keyword),
-        TokenKind::Mark(mark) => Ok(mark_step(reading, mark)),
-        TokenKind::Name(_) => Ok(text_step(reading, spelled_text(alloc, source, token.at)?)),
+        TokenKind::Mark(mark) => mark_step(reading, mark),
+        TokenKind::Name(_) => text_step(alloc, reading, spelled_text(alloc, source, token.at)?),
         TokenKind::Number { .. } => {
-            Ok(text_step(reading, spelled_text(alloc, source, token.at)?))
+            text_step(alloc, reading, spelled_text(alloc, source, token.at)?)
         }
+        TokenKind::Str(contents) => kind_step(reading, spelled_text(alloc, source, contents)?),
         TokenKind::Newline => newline_step(reading),
         _ => Ok(between(reading.lines)),
     }
@@ -192,7 +262,7 @@ fn step(alloc: Global, source: &[u8], reading: Reading, token: Token) -> Result<
 /// What is read of the tokens.
 fn read_tokens(alloc: Global, source: &[u8], tokens: &[Token]) -> Result<Reading, NoMemory>
     requires ascii { IsAscii source.now }
-    requires within { All (λ token. IsWithin source.now token.at) tokens.now }
+    requires placed { All (IsPlaced source.now) tokens.now }
     ensures { IfOk result (λ after. after ≡ tokens_read source.now (between []) tokens.now) }
 {
     let mut reading = between(List::new(alloc));
@@ -200,6 +270,14 @@ fn read_tokens(alloc: Global, source: &[u8], tokens: &[Token]) -> Result<Reading
         reading = step(alloc, source, reading, *token)?;
     }
     Ok(reading)
+}
+
+/// The tokens behind those of the first line and of the indentation.
+fn body_tokens(tokens: &[Token]) -> &[Token]
+    requires { 5 ≤ length tokens.now }
+    ensures { result.now ≡ body_tokens tokens.now }
+{
+    &tokens[5..]
 }
 
 /// The block that the tokens of a file spell, if it is not empty.
@@ -211,10 +289,10 @@ pub(crate) fn read_block(
     requires { (file : FileId) × (names : List (List ℕ)) × (block : Option Block) × AreTokens source.now file names tokens.now block }
     ensures { IfOk result (IsFile source.now) }
 {
-    if tokens.len() < 2 {
+    if tokens.len() < 5 {
         return Ok(None);
     }
     let name = spelled_text(alloc, source, tokens[1].at)?;
-    let Reading { lines, .. } = read_tokens(alloc, source, tokens)?;
+    let Reading { lines, .. } = read_tokens(alloc, source, body_tokens(tokens))?;
     Ok(Some(Block { name, lines }))
 }

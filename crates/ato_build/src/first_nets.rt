@@ -1,8 +1,9 @@
-ghost use Rattle.std.specs.Prelude.{◌≡◌, ◌+◌, ◌<◌, All, IfOk, length, map};
+ghost use Rattle.std.specs.Prelude.{◌≡◌, ◌+◌, ◌<◌, ◌||◌, nat_lt, All, IfOk, length, map};
 ghost use Rattle.ato_build.specs.FirstPoints.{AreJoined, AreKnown, IsJoinedByLine, pins_of};
 ghost use Rattle.ato_build.specs.LeastEquivalence.{IsLeastEquivalence};
 ghost use Rattle.ato_build.specs.FirstGroups.{class_name, group_net, label_at};
-ghost use Rattle.ato_build.specs.FirstNets.{comps_of, net_pin, IsNetList, SharesExactly};
+ghost use Rattle.ato_build.specs.FirstParts.{part_of, slot_count};
+ghost use Rattle.ato_build.specs.FirstNets.{comps_with, net_pin, IsNetList, SharesExactly};
 
 use crate::classes::class_numbers;
 use crate::first_groups::groups_of;
@@ -81,15 +82,15 @@ fn nets_of(
     Ok(nets)
 }
 
-/// The block as the one part, where it has a pin.
-fn comps_of(alloc: Global, block: &Block, points: &Points) -> Result<List<Comp>, NoMemory>
-    ensures { IfOk result (λ comps. comps ≡ comps_of block.now points.now.pins) }
+/// The one part, where there is one, with what stands for it in the netlist.
+fn comps_of(alloc: Global, value: &str, is_comp: bool) -> Result<List<Comp>, NoMemory>
+    ensures { IfOk result (λ comps. comps ≡ comps_with is_comp value.now) }
 {
     let mut comps = List::new(alloc);
-    if points.pins.len() > 0 {
+    if is_comp {
         comps.push(Comp {
             designator: Text::copy(alloc, "U1")?,
-            value: Text::copy(alloc, block.name.as_str())?,
+            value: Text::copy(alloc, value)?,
             footprint: Text::new(alloc),
             path: Text::new(alloc),
         })?;
@@ -97,11 +98,24 @@ fn comps_of(alloc: Global, block: &Block, points: &Points) -> Result<List<Comp>,
     Ok(comps)
 }
 
-/// The net list of a block of the first form: its nets are the classes of joined pins.
+/// Whether a block with so many slots and pins is a part.
+fn is_comp(slots: usize, pins: usize) -> bool
+    ensures { result ≡ (nat_lt 0 slots || nat_lt 0 pins) }
+{
+    slots > 0 || pins > 0
+}
+
+/// The net list of a block of the first form, with what stands for its part: its nets are the classes of joined pins.
 /// Being joined is the least equivalence that holds the joins of the lines.
-pub(crate) fn list_of(alloc: Global, block: &Block) -> Result<NetList, NoMemory>
-    requires { AreKnown block.now }
-    ensures list { IfOk result (IsNetList block.now) }
+pub(crate) fn list_of(
+    alloc: Global,
+    block: &Block,
+    value: &str,
+    slots: usize,
+) -> Result<NetList, NoMemory>
+    requires known { AreKnown block.now }
+    requires slots { slots ≡ slot_count (part_of block.now.lines) }
+    ensures list { IfOk result (IsNetList block.now value.now) }
     ensures shares { IfOk result (SharesExactly block.now) }
     ensures equivalence { IsLeastEquivalence (IsJoinedByLine block.now) (AreJoined block.now) }
 {
@@ -113,7 +127,7 @@ pub(crate) fn list_of(alloc: Global, block: &Block) -> Result<NetList, NoMemory>
     let of = class_numbers(alloc, signals + pins, &joins)?;
     let groups = groups_of(alloc, &of, signals, pins)?;
     Ok(NetList {
-        comps: comps_of(alloc, block, &points)?,
+        comps: comps_of(alloc, value, is_comp(slots, pins))?,
         nets: nets_of(alloc, &points, &of, groups.as_slice())?,
     })
 }

@@ -1,5 +1,4 @@
-ghost use Rattle.std.specs.Prelude.{◌≡◌, ◌≢◌, ◌<◌, ◌≤◌, ◌⊎◌, IfSome};
-ghost use Rattle.std.specs.FinMap.{get};
+ghost use Rattle.std.specs.Prelude.{◌≡◌, ◌≢◌, ◌<◌, ◌≤◌, ◌⊎◌, List, ℕ, IfSome};
 ghost use Rattle.ato_base.specs.declared.faults.Fault.{Fault};
 ghost use Rattle.ato_base.specs.declared.faults.FaultKind.TheVariants as kinds;
 ghost use Rattle.ato_lexer.specs.declared.first_form.Block.{Block};
@@ -7,7 +6,9 @@ ghost use Rattle.ato_outside.specs.Causes.{Rose};
 ghost use Rattle.ato_build.specs.Headline.{Headline, IsToldWriteFault};
 ghost use Rattle.ato_build.specs.Words.{texts, IsBuild, IsNoJob};
 ghost use Rattle.ato_build.specs.Causes.{EndsOutside};
-ghost use Rattle.ato_build.specs.Entry.{entry_of, Gives, Stands};
+ghost use Rattle.ato_catalog.specs.Contents.{Contents};
+ghost use Rattle.ato_build.specs.FirstParts.{part_of, IsGoodPick, NoGoodPick};
+ghost use Rattle.ato_build.specs.Input.{input_of, Gives, Stands};
 ghost use Rattle.ato_build.specs.declared.words.Build.{Build};
 
 use crate::Status;
@@ -56,15 +57,19 @@ pub fn run<S: Shelf, T: Tray, O: Sink>(
     // Where memory and the outside do not fail, the words and the files decide the answer.
     ensures usage_where { IsNoJob (texts words.now.items) → (result ≡ Status.Usage) ⊎ (result ≡ Status.NoMemory) ⊎ (result ≡ Status.WriteFault) }
     ensures fault_where { IfSome (S.files shelf.old) (λ files. (build : Build) (f : Fault) → IsBuild (texts words.now.items) build
-        → Stands build (entry_of (get files build.file)) f → (result ≡ Status.Fault f) ⊎ EndsOutside result) }
-    ensures built_where { IfSome (S.files shelf.old) (λ files. (build : Build) (block : Block) → IsBuild (texts words.now.items) build
-        → Gives build (entry_of (get files build.file)) block → (result ≡ Status.Built) ⊎ EndsOutside result) }
+        → Stands build (input_of files build) f → (result ≡ Status.Fault f) ⊎ EndsOutside result) }
+    ensures built_where { IfSome (S.files shelf.old) (λ files. (build : Build) (block : Block) (contents : Contents) (pick : List ℕ)
+        → IsBuild (texts words.now.items) build → Gives build (input_of files build) block contents
+        → IsGoodPick (part_of block.lines) contents pick → (result ≡ Status.Built) ⊎ EndsOutside result) }
+    ensures refuted_where { IfSome (S.files shelf.old) (λ files. (build : Build) (block : Block) (contents : Contents)
+        → IsBuild (texts words.now.items) build → Gives build (input_of files build) block contents
+        → NoGoodPick (part_of block.lines) contents → (result ≡ Status.Refuted) ⊎ EndsOutside result) }
 
-    // Where no fault stands and nothing outside failed in this call, a job is done.
+    // Where no fault stands and nothing outside failed in this call, a job is decided.
     ensures complete { IfSome (S.files shelf.old) (λ files. (build : Build) → IsBuild (texts words.now.items) build
-        → ((f : Fault) → ¬ Stands build (entry_of (get files build.file)) f)
+        → ((f : Fault) → ¬ Stands build (input_of files build) f)
         → ¬ Rose (S.faults shelf.old) (S.faults shelf.new) → ¬ Rose (T.faults tray.old) (T.faults tray.new) → ¬ Rose (O.faults out.old) (O.faults out.new)
-        → (result ≡ Status.Built) ⊎ (result ≡ Status.NoMemory)) }
+        → (result ≡ Status.Built) ⊎ (result ≡ Status.Refuted) ⊎ (result ≡ Status.NoMemory)) }
 
     // What never fails is never named.
     ensures sure_shelf { ((s : S) → S.faults s ≡ 0) → result ≢ Status.ReadFault }

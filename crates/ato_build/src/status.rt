@@ -6,10 +6,12 @@ use ato_base::Fault;
 /// How a run ended.
 #[derive(Debug, Drop)]
 pub enum Status {
-    /// The netlist stands in the tray.
+    /// A good pick was found. The netlist with it and its certificate stand in the tray.
     Built,
     /// A fault stands in the input.
     Fault(Fault),
+    /// No pick is good. The certificate of this stands in the tray.
+    Refuted,
     /// A file could not be read.
     ReadFault,
     /// A file could not be put, or a text could not be printed.
@@ -28,6 +30,7 @@ impl Status {
         match self {
             Status::Built => 0,
             Status::Fault(_) => 1,
+            Status::Refuted => 2,
             Status::ReadFault => 5,
             Status::WriteFault => 6,
             Status::Usage => 7,

@@ -1,4 +1,5 @@
 mod failures;
+mod parts;
 
 use crate::run;
 use ato_base::{List, NoMemory, Text};
@@ -18,10 +19,17 @@ fn words(alloc: Global, line: &str) -> Result<Vec<String>, NoMemory> {
     Ok(words)
 }
 
-/// The file `main.ato` with these bytes, and a catalogue without rows.
-fn files(alloc: Global, source: &[u8]) -> Result<List<(Text, List<u8>)>, NoMemory> {
+/// A catalogue without rows.
+const NO_ROWS: &[u8] = b"part,kind\n";
+
+/// The file `main.ato` with these bytes, and `cat.csv` with others.
+fn files(
+    alloc: Global,
+    source: &[u8],
+    catalogue: &[u8],
+) -> Result<List<(Text, List<u8>)>, NoMemory> {
     let mut files = List::new(alloc);
-    for (name, text) in [("main.ato", source), ("cat.csv", b"part,kind\n".as_slice())] {
+    for (name, text) in [("main.ato", source), ("cat.csv", catalogue)] {
         let mut bytes = Vec::new(alloc);
         bytes.extend_from_slice(text)?;
         files.push((Text::copy(alloc, name)?, List::from_vec(bytes)))?;
@@ -29,9 +37,14 @@ fn files(alloc: Global, source: &[u8]) -> Result<List<(Text, List<u8>)>, NoMemor
     Ok(files)
 }
 
-/// What a run over files in memory gives: its status code, the netlist and the print.
-fn built(alloc: Global, source: &[u8], line: &str) -> Result<(u8, SureTray, MemSink), NoMemory> {
-    let mut shelf = SureShelf::new(files(alloc, source)?);
+/// What a run over files in memory gives: its status code, what is put and what is printed.
+fn run_over(
+    alloc: Global,
+    source: &[u8],
+    catalogue: &[u8],
+    line: &str,
+) -> Result<(u8, SureTray, MemSink), NoMemory> {
+    let mut shelf = SureShelf::new(files(alloc, source, catalogue)?);
     let mut tray = SureTray::new(alloc);
     let mut sink = MemSink::new(alloc, 200, List::new(alloc))?;
     let status = run(
@@ -42,6 +55,11 @@ fn built(alloc: Global, source: &[u8], line: &str) -> Result<(u8, SureTray, MemS
         &mut sink,
     );
     Ok((status.code(), tray, sink))
+}
+
+/// The same with a catalogue that has no rows.
+fn built(alloc: Global, source: &[u8], line: &str) -> Result<(u8, SureTray, MemSink), NoMemory> {
+    run_over(alloc, source, NO_ROWS, line)
 }
 
 /// A netlist of one part with these lines of nets.
@@ -63,7 +81,11 @@ fn a_component_without_pins_is_no_part(rt: HostRuntime) -> Result<(), Fail> {
         assert_eq!(rt; code, 0);
         assert_eq!(rt;
             sink.written(),
-            b"result built\nnets 0\nparts 0\n".as_slice()
+            b"result built\nnets 0\nparts 0\nslots 0\nvariables 0\nchecks 0\ngiven 0\nnodes 0\n".as_slice()
+        );
+        assert!(rt;
+            tray.get("out.cert").is_some_and(|put| put
+                == b"ato-certificate 1\nverdict built\nsteps 20000\npick\nend\n".as_slice())
         );
         assert!(rt;
             tray.get("out.net")
@@ -223,14 +245,27 @@ fn words_that_are_no_job_print_the_usage(rt: HostRuntime) -> Result<(), Fail> {
         "build out.cert:T cat.csv",
         "build -main.ato:T cat.csv",
         "build main.ato:T -cat.csv",
-        "build -- main.ato:T cat.csv",
+        "build main.ato:T cat.csv --steps 7",
+        "build main.ato:T cat.csv --out",
+        "build main.ato:T cat.csv --out -x",
+        "build main.ato:T cat.csv --out=../x",
+        "build main.ato:T cat.csv --out=",
+        "build main.ato:T cat.csv --out=a --out=a",
+        "build --out=main main.ato:T main.csv",
+        "build -- main.ato:T -- cat.csv",
+        "build -- main.ato:T cat.csv --out=x",
     ] {
         let (code, _, sink) = built(rt.alloc(), b"", line)?;
         assert_eq!(rt; code, 7, "{line}");
         assert_eq!(rt; sink.written(), USAGE.as_bytes());
     }
     // A block's name may have any letters, and the entry is divided at its last colon.
-    for line in ["build main.ato:Größe cat.csv", "build a:b:T cat.csv"] {
+    for line in [
+        "build main.ato:Größe cat.csv",
+        "build a:b:T cat.csv",
+        "build -- main.ato:T cat.csv",
+        "build main.ato:T out.csv --out main",
+    ] {
         let (code, _, _) = built(rt.alloc(), b"", line)?;
         assert_eq!(rt; code, 1, "{line}");
     }

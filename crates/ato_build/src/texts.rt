@@ -1,5 +1,5 @@
 ghost use Rattle.std.specs.Prelude.{◌≡◌, ◌≤◌, IfOk, length, string_bytes};
-ghost use Rattle.ato_build.specs.Texts.{line_at, begins_char, column_at, place_in_text, word_text, place_text, fault_text, summary_text, read_fault_text, usage_text, LiesWithin};
+ghost use Rattle.ato_build.specs.Texts.{line_at, begins_char, column_at, place_in_text, word_text, place_text, fault_text, verdict_text, problem_text, summary_text, read_fault_text, usage_text, LiesWithin};
 
 use crate::Build;
 use ato_base::{Fault, NetList, NoMemory, Place};
@@ -92,14 +92,41 @@ pub(crate) fn fault_text(
     Ok(format!(in alloc; "fault F{number} {name} {place}\n")?)
 }
 
-/// The lines for a net list that is put.
-#[tactic(auto, unfolding(crate::specs::Texts::summary_text))]
-pub(crate) fn summary_text(alloc: Global, list: &NetList) -> Result<String, NoMemory>
-    ensures { IfOk result (λ text. string_bytes text ≡ summary_text list.now) }
+/// The lines for a verdict and the sizes of its net list.
+#[tactic(auto, unfolding(crate::specs::Texts::verdict_text))]
+fn verdict_text(alloc: Global, verdict: &str, list: &NetList) -> Result<String, NoMemory>
+    ensures { IfOk result (λ text. string_bytes text ≡ verdict_text verdict.now list.now) }
 {
     let nets = list.nets.len();
     let parts = list.comps.len();
-    Ok(format!(in alloc; "result built\nnets {nets}\nparts {parts}\n")?)
+    Ok(format!(in alloc; "result {verdict}\nnets {nets}\nparts {parts}\n")?)
+}
+
+/// The lines for the sizes of a problem and of its certificate. Each slot has one variable and one check.
+#[tactic(auto, unfolding(crate::specs::Texts::problem_text))]
+fn problem_text(alloc: Global, slots: usize, nodes: u32) -> Result<String, NoMemory>
+    ensures { IfOk result (λ text. string_bytes text ≡ problem_text slots nodes) }
+{
+    Ok(format!(in alloc;
+        "slots {slots}\nvariables {slots}\nchecks {slots}\ngiven 0\nnodes {nodes}\n"
+    )?)
+}
+
+/// The lines for what was decided.
+#[tactic(auto, unfolding(crate::specs::Texts::summary_text))]
+pub(crate) fn summary_text(
+    alloc: Global,
+    verdict: &str,
+    list: &NetList,
+    slots: usize,
+    nodes: u32,
+) -> Result<String, NoMemory>
+    ensures { IfOk result (λ text. string_bytes text ≡ summary_text verdict.now list.now slots nodes) }
+{
+    let mut text = verdict_text(alloc, verdict, list)?;
+    let sizes = problem_text(alloc, slots, nodes)?;
+    text.push_str(sizes.as_str())?;
+    Ok(text)
 }
 
 /// The line for a file that could not be read.

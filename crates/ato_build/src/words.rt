@@ -1,8 +1,11 @@
-ghost use Rattle.std.specs.Prelude.{◌≡◌, ◌++◌, ◌∷◌, [], ◌==◌, ℕ, List, true, false, codes, IfOk, IfSome, IfNone, MatchOption, string_bytes};
+ghost use Rattle.std.specs.Prelude.{◌≡◌, ◌++◌, ◌∷◌, [], ◌==◌, ℕ, List, true, false, codes, IfOk, IfSome, IfNone, MatchOption, unwrap_or};
 ghost use Rattle.std.specs.List.{list_any};
-ghost use Rattle.ato_build.specs.Words.{IsJob, IsNoJob, texts, begins_with_dash, are_parts};
+ghost use Rattle.ato_build.specs.declared.words.Build.{Build};
+ghost use Rattle.ato_build.specs.PlainNames.{is_plain};
+ghost use Rattle.ato_build.specs.Words.{IsBuildOf, IsJob, IsNoJob, texts, are_parts, default_out};
 
 use crate::plain_names::{is_plain, is_put};
+use crate::word_line::{WordLine, read_words};
 use ato_base::{NoMemory, Text, is_name};
 use std::alloc::Global;
 
@@ -46,21 +49,6 @@ fn are_parts(out: &str, file: &str, block: &str, catalogue: &str) -> bool
         && !is_put(out, catalogue)
 }
 
-fn begins_with_dash(word: &str) -> bool
-    ensures { result ≡ begins_with_dash word.now }
-{
-    match word.as_bytes() {
-        [] => false,
-        [first, ..] => *first == b'-',
-    }
-}
-
-fn has_option(words: &[String]) -> bool
-    ensures { result ≡ list_any (λ word. begins_with_dash (string_bytes word)) words.now }
-{
-    words.iter().any(|word| begins_with_dash(word.as_str()))
-}
-
 /// The two sides of the last colon.
 fn last_colon(entry: &str) -> Option<(&str, &str)>
     ensures { MatchOption result (list_any (λ b. b == 58) entry.now ≡ false)
@@ -73,15 +61,15 @@ fn last_colon(entry: &str) -> Option<(&str, &str)>
 }
 
 /// The file and the block of an entry, where they and the catalogue may be a build's.
-fn parts<'a>(entry: &'a str, catalogue: &str) -> Option<(&'a str, &'a str)>
+fn parts<'a>(out: &str, entry: &'a str, catalogue: &str) -> Option<(&'a str, &'a str)>
     ensures { MatchOption result
-        ((file block : List ℕ) → entry.now ≡ file ++ 58 ∷ block → are_parts (codes "out") file block catalogue.now ≡ true → ⊥)
-        (λ parts. (entry.now ≡ parts.0.now ++ 58 ∷ parts.1.now) × (are_parts (codes "out") parts.0.now parts.1.now catalogue.now ≡ true)) }
+        ((file block : List ℕ) → entry.now ≡ file ++ 58 ∷ block → are_parts out.now file block catalogue.now ≡ true → ⊥)
+        (λ parts. (entry.now ≡ parts.0.now ++ 58 ∷ parts.1.now) × (are_parts out.now parts.0.now parts.1.now catalogue.now ≡ true)) }
 {
     match last_colon(entry) {
         None => None,
         Some((file, block)) => {
-            if are_parts(OUT, file, block, catalogue) {
+            if are_parts(out, file, block, catalogue) {
                 Some((file, block))
             } else {
                 None
@@ -91,11 +79,11 @@ fn parts<'a>(entry: &'a str, catalogue: &str) -> Option<(&'a str, &'a str)>
 }
 
 /// The texts of three words.
-#[tactic(auto, using(crate::proofs::WordLemmas::texts_three, crate::proofs::WordLemmas::texts_not_three))]
-fn three_words(words: &[String]) -> Option<(&str, &str, &str)>
+#[tactic(auto, using(crate::proofs::WordLemmas::three_texts, crate::proofs::WordLemmas::not_three_texts))]
+fn three_words(words: &[Text]) -> Option<(&str, &str, &str)>
     ensures { MatchOption result
-        ((a b c : List ℕ) → texts words.now ≡ a ∷ b ∷ c ∷ [] → ⊥)
-        (λ three. texts words.now ≡ three.0.now ∷ three.1.now ∷ three.2.now ∷ []) }
+        ((a b c : List ℕ) → words.now ≡ a ∷ b ∷ c ∷ [] → ⊥)
+        (λ three. words.now ≡ three.0.now ∷ three.1.now ∷ three.2.now ∷ []) }
 {
     if words.len() == 3 {
         Some((words[0].as_str(), words[1].as_str(), words[2].as_str()))
@@ -104,23 +92,52 @@ fn three_words(words: &[String]) -> Option<(&str, &str, &str)>
     }
 }
 
-/// The file, the block and the catalogue of words that are a build.
-#[tactic(auto, using(crate::proofs::WordLemmas::any_text))]
-fn build_parts(words: &[String]) -> Option<(&str, &str, &str)>
-    ensures { MatchOption result (IsNoJob (texts words.now))
-        (λ parts. (texts words.now ≡ codes "build" ∷ (parts.0.now ++ 58 ∷ parts.1.now) ∷ parts.2.now ∷ [])
-        × (list_any begins_with_dash (texts words.now) ≡ false)
-        × (are_parts (codes "out") parts.0.now parts.1.now parts.2.now ≡ true)) }
+/// The file, the block and the catalogue of positional words that are a build.
+fn build_parts<'a>(words: &'a [Text], out: &str) -> Option<(&'a str, &'a str, &'a str)>
+    ensures { MatchOption result ((build : Build) → IsBuildOf words.now out.now build → ⊥)
+        (λ parts. (words.now ≡ codes "build" ∷ (parts.0.now ++ 58 ∷ parts.1.now) ∷ parts.2.now ∷ [])
+        × (is_plain out.now ≡ true)
+        × (are_parts out.now parts.0.now parts.1.now parts.2.now ≡ true)) }
 {
-    if has_option(words) {
-        return None;
-    }
     let (command, entry, catalogue) = three_words(words)?;
     if command != "build" {
         return None;
     }
-    let (file, block) = parts(entry, catalogue)?;
+    if !is_plain(out) {
+        return None;
+    }
+    let (file, block) = parts(out, entry, catalogue)?;
     Some((file, block, catalogue))
+}
+
+/// The build that positional words are, where they are one.
+fn build_of(alloc: Global, words: &[Text], out: Text) -> Result<Option<Build>, NoMemory>
+    ensures some { IfOk result (λ found. IfSome found (λ build. IsBuildOf words.now out build)) }
+    ensures none { IfOk result (λ found. IfNone found ((build : Build) → IsBuildOf words.now out build → ⊥)) }
+{
+    let Some((file, block, catalogue)) = build_parts(words, out.as_str()) else {
+        return Ok(None);
+    };
+    let file = Text::copy(alloc, file)?;
+    let block = Text::copy(alloc, block)?;
+    let catalogue = Text::copy(alloc, catalogue)?;
+    Ok(Some(Build {
+        file,
+        block,
+        catalogue,
+        out,
+        steps: STEPS,
+    }))
+}
+
+/// The name of what is put.
+fn out_of(alloc: Global, out: Option<Text>) -> Result<Text, NoMemory>
+    ensures { IfOk result (λ text. text ≡ unwrap_or out default_out) }
+{
+    match out {
+        Some(out) => Ok(out),
+        None => Text::copy(alloc, OUT),
+    }
 }
 
 /// The task that the words are, where they are one.
@@ -128,14 +145,17 @@ pub fn job(alloc: Global, words: &Vec<String>) -> Result<Option<Task>, NoMemory>
     ensures some { IfOk result (λ found. IfSome found (λ task. IsJob (texts words.now.items) task)) }
     ensures none { IfOk result (λ found. IfNone found (IsNoJob (texts words.now.items))) }
 {
-    let Some((file, block, catalogue)) = build_parts(words.as_slice()) else {
+    let WordLine {
+        turn,
+        positional,
+        out,
+    } = read_words(alloc, words.as_slice())?;
+    if !turn.is_read() {
         return Ok(None);
-    };
-    Ok(Some(Task::Build(Build {
-        file: Text::copy(alloc, file)?,
-        block: Text::copy(alloc, block)?,
-        catalogue: Text::copy(alloc, catalogue)?,
-        out: Text::copy(alloc, OUT)?,
-        steps: STEPS,
-    })))
+    }
+    let out = out_of(alloc, out)?;
+    match build_of(alloc, positional.as_slice(), out)? {
+        None => Ok(None),
+        Some(build) => Ok(Some(Task::Build(build))),
+    }
 }

@@ -12,10 +12,11 @@ use Rattle.ato_lexer.specs.declared.first_form.Point.TheVariants.{Signal, Pin}
 use Rattle.ato_lexer.specs.declared.first_form.End.{End}
 use Rattle.ato_lexer.specs.declared.first_form.End.TheVariants.{Name, Declared}
 use Rattle.ato_lexer.specs.declared.first_form.Line.{Line}
-use Rattle.ato_lexer.specs.declared.first_form.Line.TheVariants.{Pass, Declaration, Join}
+use Rattle.ato_lexer.specs.declared.first_form.Line.TheVariants.{Pass, Declaration, Join, Kind, Attribute, Assertion}
 use Rattle.ato_lexer.specs.declared.first_form.Block.{Block}
 use Rattle.ato_lexer.proofs.Bools.{and_true}
-use Rattle.ato_lexer.proofs.FirstFormLemmas.{all_ascii, name_ascii, label_ascii}
+use Rattle.ato_lexer.proofs.FirstFormLemmas.{all_ascii, name_ascii, label_ascii, kind_ascii, number_ascii}
+use Rattle.ato_lexer.proofs.PartLineLemmas.{assertion_parts}
 
 low : ℕ → Bool
 low b = nat_le b 127
@@ -49,6 +50,19 @@ line_ascii (Join left right) h =
     indent_ascii (end_text left ++ (codes " ~ " ++ end_text right))
     (IsAscii-append (end_text left) (codes " ~ " ++ end_text right) (end_ascii left ends.0)
     (IsAscii-append (codes " ~ ") (end_text right) (words_ascii (codes " ~ ") refl) (end_ascii right ends.1)))
+line_ascii (Kind text) h =
+    IsAscii-append (codes "    kind = \"") (text ++ codes "\"") (words_ascii (codes "    kind = \"") refl)
+    (IsAscii-append text (codes "\"") (kind_ascii text h) (words_ascii (codes "\"") refl))
+line_ascii (Attribute name) h =
+    indent_ascii (name ++ codes ": dimensionless")
+    (IsAscii-append name (codes ": dimensionless") (name_ascii name (and_true _ _ h).0) (words_ascii (codes ": dimensionless") refl))
+line_ascii (Assertion a) h =
+    let parts = assertion_parts a h in
+    IsAscii-append (codes "    assert ") (a.name ++ (codes " within " ++ (a.low ++ (codes " to " ++ a.high)))) (words_ascii (codes "    assert ") refl)
+    (IsAscii-append a.name (codes " within " ++ (a.low ++ (codes " to " ++ a.high))) (name_ascii a.name parts.0)
+    (IsAscii-append (codes " within ") (a.low ++ (codes " to " ++ a.high)) (words_ascii (codes " within ") refl)
+    (IsAscii-append a.low (codes " to " ++ a.high) (number_ascii a.low parts.1)
+    (IsAscii-append (codes " to ") a.high (words_ascii (codes " to ") refl) (number_ascii a.high parts.2)))))
 
 lined_ascii : (text : List ℕ) → IsAscii text → IsAscii (lined text)
 unfolding low

@@ -1,30 +1,21 @@
-use Rattle.std.proofs.Common.{◌≡◌, ℕ, ◌<◌, ◌≤◌, ◌+◌, ◌==◌, zero, suc, List, [], ◌∷◌, ◌++◌, length, take, drop, get_or, true, false, ◌||◌, ◌&&◌, ap, sym, ◌∙◌, refl, arith, Bool, append_assoc, subst, lit<, length-append, take-append-drop, drop-cons, add-one}
-use Rattle.std.specs.Prelude.{codes, nat_le}
+use Rattle.std.proofs.Common.{◌≡◌, ℕ, ◌<◌, ◌≤◌, ◌+◌, ◌==◌, zero, suc, List, [], ◌∷◌, ◌++◌, length, get_or, true, false, ◌||◌, ◌&&◌, ap, sym, ◌∙◌, refl, arith, Bool, append_assoc, append-nil, lit<, length-append}
+use Rattle.std.specs.Prelude.{codes, nat_le, if◌then◌else◌}
 use Rattle.std.specs.List.{list_any, list_all}
 use Rattle.std.specs.Str.{IsAscii}
-use Rattle.std.proofs.lemmas.Bool.{leb-true, eqb-true, ne_eqb}
+use Rattle.std.proofs.lemmas.Bool.{leb-true, eqb-true}
 use Rattle.std.proofs.lemmas.List.{append_cancel_left, append_cancel_right}
-use Rattle.std.proofs.lemmas.List.Folds.{list_any-append}
-use Rattle.ato_lexer.specs.FirstForm.{is_ascii_name, is_label, is_short_number, is_digit, is_letter, is_name_byte, lined, point_text, end_text, line_text, is_point, is_end, is_line, head_text, lines_text, NoLine, NoHead}
+use Rattle.std.proofs.lemmas.List.Folds.{list_any-append, list_all-append}
+use Rattle.ato_lexer.specs.FirstForm.{is_ascii_name, is_kind_text, is_label, is_short_number, is_digit, is_letter, is_name_byte, is_kind_byte, lined, point_text, end_text, line_text, is_point, is_end, is_line, head_text, lines_text, NoLine, NoNext, NoHead}
 use Rattle.ato_lexer.specs.Statements.{with_tilde, words_text}
 use Rattle.ato_lexer.specs.declared.first_form.Point.{Point}
 use Rattle.ato_lexer.specs.declared.first_form.Point.TheVariants.{Signal, Pin}
 use Rattle.ato_lexer.specs.declared.first_form.End.{End}
 use Rattle.ato_lexer.specs.declared.first_form.End.TheVariants.{Name, Declared}
 use Rattle.ato_lexer.specs.declared.first_form.Line.{Line}
-use Rattle.ato_lexer.specs.declared.first_form.Line.TheVariants.{Pass, Declaration, Join}
-use Rattle.ato_lexer.proofs.Bools.{and_true, or_true, or_false, not_both}
-
--- a list at one of its indices
-pub cut_at : (xs : List ℕ) (k c : ℕ) → k < length xs → get_or xs k 0 ≡ c → xs ≡ take k xs ++ c ∷ drop (k + 1) xs
-cut_at xs k c h e = sym (take-append-drop k xs) ∙ ap (λ l. take k xs ++ l) (drop-cons xs k 0 h ∙ ap (λ b. b ∷ drop (suc k) xs) e ∙ ap (λ n. c ∷ drop n xs) (sym (add-one k)))
-
-eq_self : (c : ℕ) → (c == c) ≡ true
-eq_self c = grind arith
-
-has : (c : ℕ) (x y : List ℕ) → list_any (λ n. n == c) (x ++ c ∷ y) ≡ true
-has c [] y = rw (eq_self c) refl
-has c (u ∷ x) y = rw (has c x y) (elim (u == c) as (λ b. (b || true) ≡ true) [ true ↦ refl | false ↦ refl ])
+use Rattle.ato_lexer.specs.declared.first_form.Line.TheVariants.{Pass, Declaration, Join, Kind, Attribute, Assertion}
+use Rattle.ato_lexer.proofs.Bools.{and_true, or_true}
+use Rattle.ato_lexer.proofs.Bytes.{has, first_cut, no_byte, neither, name_without, differ}
+use Rattle.ato_lexer.proofs.PartLineLemmas.{one_assertion, kind_line_without, attribute_line_without, assertion_line_without}
 
 -- names and labels are ASCII
 
@@ -49,31 +40,16 @@ all_ascii p f (x ∷ xs) h (suc i) = all_ascii p f xs (and_true _ _ h).1 i
 pub name_ascii : (xs : List ℕ) → is_ascii_name xs ≡ true → IsAscii xs
 name_ascii xs h = all_ascii is_name_byte name_byte_ascii xs (and_true _ _ (and_true _ _ h).0).1
 
-pub label_ascii : (xs : List ℕ) → is_label xs ≡ true → IsAscii xs
-label_ascii xs h = or_true (is_ascii_name xs) (is_short_number xs) h (IsAscii xs) (name_ascii xs) (λ n. all_ascii is_digit digit_ascii xs (and_true _ _ n).1)
+pub kind_ascii : (xs : List ℕ) → is_kind_text xs ≡ true → IsAscii xs
+kind_ascii xs h = all_ascii is_kind_byte (λ b k. name_byte_ascii b (and_true _ _ k).0) xs (and_true _ _ h).1
 
--- the cut at the first c is one
-first_cut : (c : ℕ) (a b x y : List ℕ) → a ++ c ∷ b ≡ x ++ c ∷ y → list_any (λ n. n == c) a ≡ false → list_any (λ n. n == c) x ≡ false → (a ≡ x) × (b ≡ y)
-first_cut c [] b [] y e p q = (refl, cc)
-first_cut c [] b (u ∷ x) y e p q =
-    let heads : c ≡ u = cc in let bad : ⊥ = not_both (u == c) (list_any (λ n. n == c) x) (ap (λ v. v == c) (sym heads) ∙ eq_self c) q in absurd bad
-first_cut c (v ∷ a) b [] y e p q =
-    let heads : c ≡ v = cc in let bad : ⊥ = not_both (v == c) (list_any (λ n. n == c) a) (ap (λ w. w == c) (sym heads) ∙ eq_self c) p in absurd bad
-first_cut c (v ∷ a) b (u ∷ x) y e p q =
-    let heads : v ≡ u = cc in let tails : a ++ c ∷ b ≡ x ++ c ∷ y = cc in
-    let rest = first_cut c a b x y tails (or_false (v == c) (list_any (λ n. n == c) a) p).1 (or_false (u == c) (list_any (λ n. n == c) x) q).1 in (cc, rest.1)
+pub number_ascii : (xs : List ℕ) → is_short_number xs ≡ true → IsAscii xs
+number_ascii xs h = all_ascii is_digit digit_ascii xs (and_true _ _ h).1
+
+pub label_ascii : (xs : List ℕ) → is_label xs ≡ true → IsAscii xs
+label_ascii xs h = or_true (is_ascii_name xs) (is_short_number xs) h (IsAscii xs) (name_ascii xs) (number_ascii xs)
 
 -- no name, label or line of the form has a byte within it that stands for something else
-
-no_byte : (p : ℕ → Bool) (c : ℕ) → p c ≡ false → (xs : List ℕ) → list_all p xs ≡ true → list_any (λ b. b == c) xs ≡ false
-no_byte p c f [] h = refl
-no_byte p c f (x ∷ xs) h =
-    let both = and_true (p x) (list_all p xs) h in
-    let here : (x == c) ≡ false = ne_eqb x c (λ e. let z : p c ≡ true = subst (λ b. p b ≡ true) e both.0 in cc) in
-    rw here (no_byte p c f xs both.1)
-
-neither : (p : ℕ → Bool) (xs ys : List ℕ) → list_any p xs ≡ false → list_any p ys ≡ false → list_any p (xs ++ ys) ≡ false
-neither p xs ys h k = list_any-append p xs ys ∙ ap (λ b. b || list_any p ys) h ∙ k
 
 -- a byte that no point has
 record IsOther (c : ℕ) : Type 0 where
@@ -87,9 +63,6 @@ line_end = record { no_name = refl; no_digit = refl; no_signal = refl; no_pin = 
 
 tilde : IsOther 126
 tilde = record { no_name = refl; no_digit = refl; no_signal = refl; no_pin = refl }
-
-name_without : (c : ℕ) → is_name_byte c ≡ false → (xs : List ℕ) → is_ascii_name xs ≡ true → list_any (λ b. b == c) xs ≡ false
-name_without c o xs h = no_byte is_name_byte c o xs (and_true _ _ (and_true _ _ h).0).1
 
 label_without : (c : ℕ) → IsOther c → (xs : List ℕ) → is_label xs ≡ true → list_any (λ b. b == c) xs ≡ false
 label_without c o xs h =
@@ -112,6 +85,9 @@ line_no_lf (Declaration point) h = point_without 10 line_end point h
 line_no_lf (Join left right) h =
     let ends = and_true (is_end left) (is_end right) h in
     neither (λ b. b == 10) (end_text left) (codes " ~ " ++ end_text right) (end_without 10 line_end left ends.0) (end_without 10 line_end right ends.1)
+line_no_lf (Kind text) h = kind_line_without 10 refl refl refl text h
+line_no_lf (Attribute name) h = attribute_line_without 10 refl refl name h
+line_no_lf (Assertion a) h = assertion_line_without 10 refl refl refl refl a h
 
 pub head_no_lf : (name : List ℕ) → is_ascii_name name ≡ true → list_any (λ b. b == 10) (head_text name) ≡ false
 head_no_lf name h = rw (list_any-append (λ b. b == 10) name (codes ":")) (rw (name_without 10 refl name h) refl)
@@ -140,13 +116,13 @@ nonempty text rest e = let z : length text + 1 + length rest ≡ 0 = sym (simp l
 pub no_line_here : NoLine []
 no_line_here line rest h e = nonempty (line_text line) rest (sym e)
 
+pub no_next : (lines : List Line) (bytes : List ℕ) → NoLine bytes → NoNext lines bytes
+no_next lines bytes none line rest h once e = none line rest h e
+
 -- the texts are one-to-one
 
 pub one_name : (a b : List ℕ) → head_text a ≡ head_text b → a ≡ b
 one_name a b e = append_cancel_right a b (codes ":") (append_cancel_left (codes "component ") (a ++ codes ":") (b ++ codes ":") e)
-
-differ : (a b : List ℕ) (k c : ℕ) → a ≡ b → (get_or a k 0 == c) ≡ true → (get_or b k 0 == c) ≡ false → ⊥
-differ a b k c e p q = let z : (get_or b k 0 == c) ≡ true = ap (λ xs. get_or xs k 0 == c) (sym e) ∙ p in cc
 
 one_point : (a b : Point) → point_text a ≡ point_text b → a ≡ b
 one_point (Signal a) (Signal b) e = ap Signal (append_cancel_left (codes "signal ") a b e)
@@ -217,47 +193,91 @@ pub indented : (line : Line) → line_text line ≡ codes "    " ++ words_text l
 indented Pass = refl
 indented (Declaration point) = refl
 indented (Join left right) = refl
+indented (Kind text) = refl
+indented (Attribute name) = refl
+indented (Assertion a) = refl
 
-no_pass : (point : Point) → point_text point ≡ codes "pass" → ⊥
-no_pass (Signal name) e = differ (point_text (Signal name)) (codes "pass") 0 115 e refl refl
-no_pass (Pin label) e = differ (point_text (Pin label)) (codes "pass") 1 105 e refl refl
+-- Which of the six lines a text is, told by a byte that only this one has.
 
-no_join : (point : Point) (left right : End) → is_point point ≡ true → point_text point ≡ words_text (Join left right) → ⊥
-no_join point left right h e = no_sides (point_text point) (end_text left) (end_text right) (point_without 126 tilde point h) e
+sort : List ℕ → ℕ
+sort text =
+    if list_any (λ b. b == 126) text then 0
+    else (if list_any (λ b. b == 34) text then 1
+    else (if list_any (λ b. b == 58) text then 2
+    else (if get_or text 0 0 == 97 then 3
+    else (if list_any (λ b. b == 32) text then 4 else 5))))
+
+-- the same of a line
+sort_of : Line → ℕ
+sort_of Pass = 5
+sort_of (Declaration point) = 4
+sort_of (Join left right) = 0
+sort_of (Kind text) = 1
+sort_of (Attribute name) = 2
+sort_of (Assertion a) = 3
+
+first_not_a : (point : Point) → (get_or (point_text point) 0 0 == 97) ≡ false
+first_not_a (Signal name) = refl
+first_not_a (Pin label) = refl
+
+quote : IsOther 34
+quote = record { no_name = refl; no_digit = refl; no_signal = refl; no_pin = refl }
+
+colon : IsOther 58
+colon = record { no_name = refl; no_digit = refl; no_signal = refl; no_pin = refl }
+
+join_tilde : (left right : List ℕ) → list_any (λ b. b == 126) (with_tilde left right) ≡ true
+join_tilde left right = ap (list_any (λ b. b == 126)) (at_tilde left right) ∙ has 126 (left ++ codes " ") (codes " " ++ right)
+
+attribute_colon : (name : List ℕ) → list_any (λ b. b == 58) (name ++ codes ": dimensionless") ≡ true
+attribute_colon name = has 58 name (codes " dimensionless")
+
+sort_is : (line : Line) → is_line line ≡ true → sort (words_text line) ≡ sort_of line
+unfolding sort sort_of
+sort_is Pass h = refl
+sort_is (Declaration point) h =
+    rw (point_without 126 tilde point h) (rw (point_without 34 quote point h) (rw (point_without 58 colon point h) (rw (first_not_a point) (rw (point_blank point) refl))))
+sort_is (Join left right) h = rw (join_tilde (end_text left) (end_text right)) refl
+sort_is (Kind text) h = rw (kind_line_without 126 refl refl refl text h) refl
+sort_is (Attribute name) h = rw (attribute_line_without 126 refl refl name h) (rw (attribute_line_without 34 refl refl name h) (rw (attribute_colon name) refl))
+sort_is (Assertion a) h =
+    rw (assertion_line_without 126 refl refl refl refl a h) (rw (assertion_line_without 34 refl refl refl refl a h) (rw (assertion_line_without 58 refl refl refl refl a h) refl))
 
 one_words : (a b : Line) → is_line a ≡ true → is_line b ≡ true → words_text a ≡ words_text b → a ≡ b
-one_words Pass Pass h k e = refl
-one_words Pass (Declaration b) h k e = absurd (no_pass b (sym e))
-one_words Pass (Join left right) h k e = absurd (no_sides (codes "pass") (end_text left) (end_text right) refl e)
-one_words (Declaration a) Pass h k e = absurd (no_pass a e)
-one_words (Declaration a) (Declaration b) h k e = ap Declaration (one_point a b e)
-one_words (Declaration a) (Join left right) h k e = absurd (no_join a left right h e)
-one_words (Join left right) Pass h k e = absurd (no_sides (codes "pass") (end_text left) (end_text right) refl (sym e))
-one_words (Join left right) (Declaration b) h k e = absurd (no_join b left right k (sym e))
-one_words (Join a b) (Join x y) h k e =
-    let ends = and_true (is_end a) (is_end b) h in
-    let others = and_true (is_end x) (is_end y) k in
-    let same = one_join (end_text a) (end_text b) (end_text x) (end_text y) (end_no_tilde a ends.0) (end_no_tilde x others.0) e in
-    ap (λ l. Join l b) (one_end a x ends.0 others.0 same.0) ∙ ap (λ r. Join x r) (one_end b y ends.1 others.1 same.1)
+unfolding sort_of
+one_words a b h k e = by a b h k (sym (sort_is a h) ∙ ap sort e ∙ sort_is b k) e
+  where
+    by : (a b : Line) → is_line a ≡ true → is_line b ≡ true → sort_of a ≡ sort_of b → words_text a ≡ words_text b → a ≡ b
+    by Pass Pass h k s e = refl
+    by (Declaration a) (Declaration b) h k s e = ap Declaration (one_point a b e)
+    by (Join a b) (Join x y) h k s e =
+        let ends = and_true (is_end a) (is_end b) h in
+        let others = and_true (is_end x) (is_end y) k in
+        let same = one_join (end_text a) (end_text b) (end_text x) (end_text y) (end_no_tilde a ends.0) (end_no_tilde x others.0) e in
+        ap (λ l. Join l b) (one_end a x ends.0 others.0 same.0) ∙ ap (λ r. Join x r) (one_end b y ends.1 others.1 same.1)
+    by (Kind a) (Kind b) h k s e = ap Kind (append_cancel_right a b (codes "\"") (append_cancel_left (codes "kind = \"") (a ++ codes "\"") (b ++ codes "\"") e))
+    by (Attribute a) (Attribute b) h k s e = ap Attribute (append_cancel_right a b (codes ": dimensionless") e)
+    by (Assertion a) (Assertion b) h k s e = ap Assertion (one_assertion a b h k e)
+    by a b h k s e = absurd (omega (arith, s))
 
-one_line : (a b : Line) → is_line a ≡ true → is_line b ≡ true → line_text a ≡ line_text b → a ≡ b
+pub one_line : (a b : Line) → is_line a ≡ true → is_line b ≡ true → line_text a ≡ line_text b → a ≡ b
 one_line a b h k e = one_words a b h k (append_cancel_left (codes "    ") (words_text a) (words_text b) (sym (indented a) ∙ e ∙ indented b))
 
-line_and_more : (line : Line) (lines : List Line) (rest : List ℕ) → lines_text (line ∷ lines) ++ rest ≡ lined (line_text line) ++ (lines_text lines ++ rest)
+pub line_and_more : (line : Line) (lines : List Line) (rest : List ℕ) → lines_text (line ∷ lines) ++ rest ≡ lined (line_text line) ++ (lines_text lines ++ rest)
 line_and_more line lines rest = append_assoc (lined (line_text line)) (lines_text lines) rest
 
--- Where two fronts of lines are followed by no line, they are one.
-pub one_front : (ls os : List Line) (r s : List ℕ) → list_all is_line ls ≡ true → list_all is_line os ≡ true → lines_text ls ++ r ≡ lines_text os ++ s → NoLine r → NoLine s → (ls ≡ os) × (r ≡ s)
-one_front [] [] r s h k e p q = (refl, e)
-one_front [] (o ∷ os) r s h k e p q = absurd (p o (lines_text os ++ s) (and_true (is_line o) (list_all is_line os) k).0 (e ∙ line_and_more o os s))
-one_front (l ∷ ls) [] r s h k e p q = absurd (q l (lines_text ls ++ r) (and_true (is_line l) (list_all is_line ls) h).0 (sym e ∙ line_and_more l ls r))
-one_front (l ∷ ls) (o ∷ os) r s h k e p q =
-    let ls_are = and_true (is_line l) (list_all is_line ls) h in
-    let os_are = and_true (is_line o) (list_all is_line os) k in
-    let cut = first_text (line_text l) (lines_text ls ++ r) (line_text o) (lines_text os ++ s)
-    (sym (line_and_more l ls r) ∙ e ∙ line_and_more o os s) (line_no_lf l ls_are.0) (line_no_lf o os_are.0) in
-    let more = one_front ls os r s ls_are.1 os_are.1 cut.1 p q in
-    (ap (λ x. x ∷ ls) (one_line l o ls_are.0 os_are.0 cut.0) ∙ ap (λ xs. o ∷ xs) more.0, more.1)
+-- One more line, behind those before.
+
+pub text_push : (lines : List Line) (line : Line) → lines_text (lines ++ line ∷ []) ≡ lines_text lines ++ lined (line_text line)
+text_push [] line = append-nil (lined (line_text line))
+text_push (l ∷ ls) line = ap (λ t. lined (line_text l) ++ t) (text_push ls line) ∙ sym (append_assoc (lined (line_text l)) (lines_text ls) (lined (line_text line)))
+
+pub text_more : (bytes rest more : List ℕ) (lines : List Line) (line : Line) → bytes ≡ lines_text lines ++ rest → rest ≡ lined (line_text line) ++ more → bytes ≡ lines_text (lines ++ line ∷ []) ++ more
+text_more bytes rest more lines line text is =
+    text ∙ ap (λ r. lines_text lines ++ r) is ∙ sym (append_assoc (lines_text lines) (lined (line_text line)) more) ∙ ap (λ t. t ++ more) (sym (text_push lines line))
+
+pub are_more : (lines : List Line) (line : Line) → list_all is_line lines ≡ true → is_line line ≡ true → list_all is_line (lines ++ line ∷ []) ≡ true
+are_more lines line are ok = list_all-append is_line lines (line ∷ []) ∙ ap (λ b. b && (is_line line && true)) are ∙ ap (λ b. b && true) ok
 
 -- The heads of two fronts of one text are one, and so is what comes after them.
 pub one_head : (a b : List ℕ) (r s : List ℕ) → is_ascii_name a ≡ true → is_ascii_name b ≡ true → lined (head_text a) ++ r ≡ lined (head_text b) ++ s → (a ≡ b) × (r ≡ s)

@@ -1,7 +1,14 @@
 pub mod Bools
+pub mod Bytes
+pub mod PartLineLemmas
 pub mod FirstFormLemmas
+pub mod OnceLemmas
+pub mod FoundLemmas
+pub mod BadLineLemmas
+pub mod SignalLemmas
 pub mod FirstFormAscii
 pub mod FirstFormLaws
+pub mod PartLaws
 pub mod FormExamples
 pub mod Digits
 pub mod Numbers

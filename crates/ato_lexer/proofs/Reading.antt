@@ -1,8 +1,7 @@
 -- Lines that are read one by one, with their tokens.
-use Rattle.std.proofs.Common.{◌≡◌, ℕ, ◌+◌, ◌-◌, ◌<◌, Bool, true, false, ◌&&◌, List, [], ◌∷◌, ◌++◌, length, ap, sym, ◌∙◌, refl, arith, append_assoc, append-nil, length-append, subst, inl, inr}
-use Rattle.std.specs.Prelude.{if◌then◌else◌, All, codes, Some}
-use Rattle.std.proofs.lemmas.List.Elements.{All-head, All-tail, All-push, All-append, All-take, All-drop, All-weaker}
-use Rattle.std.proofs.lemmas.List.Folds.{list_all-append}
+use Rattle.std.proofs.Common.{◌≡◌, ℕ, ◌+◌, ◌-◌, ◌<◌, ◌==◌, Bool, true, false, ◌&&◌, ◌||◌, not, List, [], ◌∷◌, ◌++◌, length, ap, sym, ◌∙◌, refl, arith, append_assoc, append-nil, length-append, subst, inl, inr}
+use Rattle.std.specs.Prelude.{if◌then◌else◌, All, codes, Some, None}
+use Rattle.std.proofs.lemmas.List.Elements.{All-nil, All-cons, All-head, All-tail, All-push, All-append, All-take, All-drop, All-weaker}
 use Rattle.std.proofs.Math.Seq.{take-append_seam, drop-append_seam}
 use Rattle.ato_base.specs.declared.keywords.Keyword.TheVariants as words
 use Rattle.ato_base.specs.declared.keywords.Mark.TheVariants as marks
@@ -11,16 +10,19 @@ use Rattle.ato_base.specs.declared.places.FileId.{FileId}
 use Rattle.ato_base.specs.declared.tokens.Token.{Token}
 use Rattle.ato_base.specs.declared.faults.Refusal.{Refusal}
 use Rattle.ato_base.specs.declared.faults.Refusal.TheVariants as refusals
-use Rattle.ato_lexer.specs.FirstForm.{lined, end_text, line_text, lines_text, head_text, block_text, is_point, is_end, is_line, is_ascii_name, NoLine, NoHead}
-use Rattle.ato_lexer.specs.FirstTokens.{Holds, Extends, point_names, end_names, line_names, point_tokens, end_tokens, words_tokens, line_tokens, lines_tokens, label_token, name_token, number_token, token, head_tokens, last_tokens, AreTokens, IsRefused, syntax_fault}
-use Rattle.ato_lexer.specs.Statements.{point_of, end_of, line_of, IsPointText, IsEndText, IsStatement, words_text, AreRead, AreRefused}
+use Rattle.ato_lexer.specs.FirstForm.{lined, end_text, line_text, lines_text, head_text, block_text, is_point, is_end, is_line, is_ascii_name, is_short_number, NoLine, NoHead, bad_line}
+use Rattle.ato_lexer.specs.FirstTokens.{Holds, Extends, point_names, end_names, line_names, point_tokens, end_tokens, words_tokens, line_tokens, lines_tokens, label_token, name_token, number_token, range_tokens, token, head_tokens, last_tokens, AreTokens, IsRefused, syntax_fault}
+use Rattle.ato_lexer.specs.Statements.{point_of, end_of, line_of, IsPointText, IsEndText, IsStatement, words_text, AreRead, IsWholeFront}
 use Rattle.ato_lexer.specs.declared.first_form.Point.{Point}
 use Rattle.ato_lexer.specs.declared.first_form.Point.TheVariants.{Signal, Pin}
 use Rattle.ato_lexer.specs.declared.first_form.End.{End}
 use Rattle.ato_lexer.specs.declared.first_form.End.TheVariants.{Name, Declared}
 use Rattle.ato_lexer.specs.declared.first_form.Line.{Line}
-use Rattle.ato_lexer.specs.declared.first_form.Line.TheVariants.{Pass, Declaration, Join}
+use Rattle.ato_lexer.specs.declared.first_form.Line.TheVariants.{Pass, Declaration, Join, Kind, Attribute}
+use Rattle.ato_lexer.specs.declared.first_form.Line.TheVariants as forms
+use Rattle.ato_lexer.specs.declared.first_form.Assertion.{Assertion}
 use Rattle.ato_lexer.specs.declared.first_form.Block.{Block}
+use Rattle.ato_lexer.specs.declared.fronts.Found.{Found}
 use Rattle.ato_lexer.specs.declared.statements.PointText.{PointText}
 use Rattle.ato_lexer.specs.declared.statements.PointText.TheVariants as points
 use Rattle.ato_lexer.specs.declared.statements.EndText.{EndText}
@@ -28,7 +30,8 @@ use Rattle.ato_lexer.specs.declared.statements.EndText.TheVariants as ends
 use Rattle.ato_lexer.specs.declared.statements.Statement.{Statement}
 use Rattle.ato_lexer.specs.declared.statements.Statement.TheVariants as statements
 use Rattle.ato_lexer.proofs.Numbers.{held_number, held_more}
-use Rattle.ato_lexer.proofs.FirstFormLemmas.{indented}
+use Rattle.ato_lexer.proofs.FirstFormLemmas.{indented, no_next, text_more, are_more}
+use Rattle.ato_lexer.proofs.BadLineLemmas.{whole_file, bad_line_within}
 
 -- A statement is a line of the form.
 
@@ -45,6 +48,10 @@ pub statement_line : (s : Statement) → IsStatement s → is_line (line_of s) �
 statement_line statements.Pass h = refl
 statement_line (statements.Declaration point) h = point_is point h
 statement_line (statements.Join left right) h = ap (λ b. b && is_end (end_of right)) (end_is left h.0) ∙ end_is right h.1
+statement_line (statements.Kind text) h = h
+statement_line (statements.Attribute name) h = h
+statement_line (statements.Assertion a) h =
+    ap (λ b. b && is_short_number a.low.now && is_short_number a.high.now) h.name ∙ ap (λ b. b && is_short_number a.high.now) h.low ∙ h.high
 
 -- A table that grows keeps the tokens of lines whose names it holds.
 
@@ -77,6 +84,11 @@ words_more names more file at (Join left right) h =
     let mark : Token = token file (kinds.Mark marks.Tilde) (at + 5 + size) (at + 6 + size) in
     ap (λ ts. ts ++ mark ∷ end_tokens (names ++ more) file (at + 7 + size) right) (end_more names more file (at + 4) left (All-front (Holds names) (end_names left) (end_names right) h))
     ∙ ap (λ ts. end_tokens names file (at + 4) left ++ mark ∷ ts) (end_more names more file (at + 7 + size) right (All-back (Holds names) (end_names left) (end_names right) h))
+words_more names more file at (Kind text) h = rw (held_number names more (codes "kind") (All-head (Holds names) (codes "kind") [] h)) refl
+words_more names more file at (Attribute name) h =
+    let dimensionless : Holds names (codes "dimensionless") = All-head (Holds names) (codes "dimensionless") [] (All-tail (Holds names) name (codes "dimensionless" ∷ []) h) in
+    rw (held_number names more name (All-head (Holds names) name (codes "dimensionless" ∷ []) h)) (rw (held_number names more (codes "dimensionless") dimensionless) refl)
+words_more names more file at (forms.Assertion a) h = rw (held_number names more a.name (All-head (Holds names) a.name [] h)) refl
 
 line_more : (names more : List (List ℕ)) (file : FileId) (at : ℕ) (line : Line) → All (Holds names) (line_names line) → line_tokens (names ++ more) file at line ≡ line_tokens names file at line
 line_more names more file at line h =
@@ -129,6 +141,58 @@ join_pushed file at stop left right names new before one two after place grown h
 pub join_held : (left right : End) (names new : List (List ℕ)) → Extends names new → All (Holds names) (end_names left) → All (Holds new) (end_names right) → All (Holds new) (line_names (Join left right))
 join_held left right names new grown one two = All-append (Holds new) (end_names left) (end_names right) (all_grown names new (end_names left) grown one) two
 
+-- The same of an attribute, whose table grows between its name and the word behind the colon.
+
+attribute_place : (at size stop : ℕ) → stop ≡ at + 4 + size → (stop + 1 ≡ at + 5 + size) × (stop + 2 ≡ at + 6 + size)
+attribute_place at size stop e = (omega arith, omega arith)
+
+pub attribute_pushed : (file : FileId) (at stop : ℕ) (name : List ℕ) (names new : List (List ℕ)) (before one two after : List Token)
+    → stop ≡ at + 4 + length name → Extends names new → Holds names name
+    → one ≡ before ++ name_token names file (at + 4) name ∷ [] → two ≡ one ++ token file (kinds.Mark marks.Colon) stop (stop + 1) ∷ []
+    → after ≡ two ++ name_token new file (stop + 2) (codes "dimensionless") ∷ [] → after ≡ before ++ words_tokens new file at (Attribute name)
+attribute_pushed file at stop name names new before one two after place (extra, grown) held first second third =
+    let size : ℕ = length name in
+    let places = attribute_place at size stop place in
+    let first_now : name_token names file (at + 4) name ≡ name_token new file (at + 4) name =
+    sym (ap (λ table. name_token table file (at + 4) name) grown ∙ rw (held_number names extra name held) refl) in
+    let tokens : Token → ℕ → ℕ → ℕ → List Token =
+    λ (t : Token) (a b c : ℕ). ((before ++ t ∷ []) ++ token file (kinds.Mark marks.Colon) a b ∷ []) ++ name_token new file c (codes "dimensionless") ∷ [] in
+    third ∙ ap (λ ts. ts ++ name_token new file (stop + 2) (codes "dimensionless") ∷ []) (second ∙ ap (λ ts. ts ++ token file (kinds.Mark marks.Colon) stop (stop + 1) ∷ []) first)
+    ∙ ap (λ t. tokens t stop (stop + 1) (stop + 2)) first_now
+    ∙ ap (λ a. tokens (name_token new file (at + 4) name) a (stop + 1) (stop + 2)) place
+    ∙ ap (λ b. tokens (name_token new file (at + 4) name) (at + 4 + size) b (stop + 2)) places.0
+    ∙ ap (λ c. tokens (name_token new file (at + 4) name) (at + 4 + size) (at + 5 + size) c) places.1
+    ∙ in_order before (name_token new file (at + 4) name ∷ []) (token file (kinds.Mark marks.Colon) (at + 4 + size) (at + 5 + size) ∷ []) (name_token new file (at + 6 + size) (codes "dimensionless") ∷ [])
+
+pub attribute_held : (name : List ℕ) (names new : List (List ℕ)) → Extends names new → Holds names name → Holds new (codes "dimensionless") → All (Holds new) (line_names (Attribute name))
+attribute_held name names new (extra, grown) one two =
+    All-cons (Holds new) name (codes "dimensionless" ∷ []) (subst (λ table. Holds table name) (sym grown) (held_more names extra name one)) (All-cons (Holds new) (codes "dimensionless") [] two (All-nil (Holds new)))
+
+-- The tokens of an assertion.
+
+assertion_places : (at size stop : ℕ) → stop ≡ at + 11 + size → (stop + 1 ≡ at + 12 + size) × (stop + 7 ≡ at + 18 + size) × (stop + 8 ≡ at + 19 + size)
+assertion_places at size stop e = (omega arith, omega arith, omega arith)
+
+four_in_order : (before one two three four : List Token) → (((before ++ one) ++ two) ++ three) ++ four ≡ before ++ (one ++ (two ++ (three ++ four)))
+four_in_order before one two three four = simp append_assoc
+
+pub assertion_pushed : (file : FileId) (at stop : ℕ) (a : Assertion) (names : List (List ℕ)) (before one two three after : List Token) → stop ≡ at + 11 + length a.name
+    → one ≡ before ++ token file (kinds.Keyword words.Assert) (at + 4) (at + 10) ∷ [] → two ≡ one ++ name_token names file (at + 11) a.name ∷ []
+    → three ≡ two ++ token file (kinds.Keyword words.Within) (stop + 1) (stop + 7) ∷ [] → after ≡ three ++ range_tokens file (stop + 8) a.low a.high
+    → after ≡ before ++ words_tokens names file at (forms.Assertion a)
+assertion_pushed file at stop a names before one two three after place first second third fourth =
+    let size : ℕ = length a.name in
+    let places = assertion_places at size stop place in
+    let assert : List Token = token file (kinds.Keyword words.Assert) (at + 4) (at + 10) ∷ [] in
+    let name : List Token = name_token names file (at + 11) a.name ∷ [] in
+    let within : ℕ → ℕ → List Token = λ (x y : ℕ). token file (kinds.Keyword words.Within) x y ∷ [] in
+    fourth
+    ∙ ap (λ ts. ts ++ range_tokens file (stop + 8) a.low a.high) (third ∙ ap (λ ts. ts ++ within (stop + 1) (stop + 7)) (second ∙ ap (λ ts. ts ++ name) first))
+    ∙ ap (λ x. (((before ++ assert) ++ name) ++ within x (stop + 7)) ++ range_tokens file (stop + 8) a.low a.high) places.0
+    ∙ ap (λ y. (((before ++ assert) ++ name) ++ within (at + 12 + size) y) ++ range_tokens file (stop + 8) a.low a.high) places.1
+    ∙ ap (λ z. (((before ++ assert) ++ name) ++ within (at + 12 + size) (at + 18 + size)) ++ range_tokens file z a.low a.high) places.2
+    ∙ four_in_order before assert name (within (at + 12 + size) (at + 18 + size)) (range_tokens file (at + 19 + size) a.low a.high)
+
 -- One more line, behind those before.
 
 tokens_push : (names : List (List ℕ)) (file : FileId) (at : ℕ) (lines : List Line) (line : Line) → lines_tokens names file at (lines ++ line ∷ []) ≡ lines_tokens names file at lines ++ line_tokens names file (at + length (lines_text lines)) line
@@ -141,13 +205,13 @@ tokens_push names file at (l ∷ ls) line =
     ∙ sym (append_assoc (line_tokens names file at l) (lines_tokens names file (at + length (lined (line_text l))) ls) (line_tokens names file (at + length (lined (line_text l)) + length (lines_text ls)) line))
     ∙ ap (λ n. lines_tokens names file at (l ∷ ls) ++ line_tokens names file n line) place
 
-text_push : (lines : List Line) (line : Line) → lines_text (lines ++ line ∷ []) ≡ lines_text lines ++ lined (line_text line)
-text_push [] line = append-nil (lined (line_text line))
-text_push (l ∷ ls) line = ap (λ t. lined (line_text l) ++ t) (text_push ls line) ∙ sym (append_assoc (lined (line_text l)) (lines_text ls) (lined (line_text line)))
-
 -- where the rest begins
 pub rest_place : (at : ℕ) (bytes rest : List ℕ) (lines : List Line) → bytes ≡ lines_text lines ++ rest → at + (length bytes - length rest) ≡ at + length (lines_text lines)
 rest_place at bytes rest lines e = omega (arith, ap length e, length-append (lines_text lines) rest)
+
+pub read_none : (file : FileId) (at : ℕ) (bytes rest : List ℕ) (names : List (List ℕ)) (tokens : List Token) → rest ≡ bytes → AreRead file at bytes rest names tokens tokens []
+read_none file at bytes rest names tokens e =
+    record { text = sym e; are_lines = refl; tokens_are = sym (append-nil tokens); held = All-nil (λ line. All (Holds names) (line_names line)) }
 
 pub read_more : (file : FileId) (at : ℕ) (bytes rest more : List ℕ) (names new : List (List ℕ)) (before tokens after : List Token) (lines : List Line) (line : Line)
     → AreRead file at bytes rest names before tokens lines → rest ≡ lined (line_text line) ++ more → is_line line ≡ true → Extends names new
@@ -158,8 +222,8 @@ read_more file at bytes rest more names new before tokens after lines line read 
     let kept : All (all new) lines = subst (λ table. All (all table) lines) (sym grown) (All-weaker (all names) (all (names ++ extra)) (λ line h. all_more names extra (line_names line) h) lines read.held) in
     let old_tokens : lines_tokens names file at lines ≡ lines_tokens new file at lines = sym (ap (λ table. lines_tokens table file at lines) grown ∙ lines_more names extra file at lines read.held) in
     record {
-      text = read.text ∙ ap (λ r. lines_text lines ++ r) is ∙ sym (append_assoc (lines_text lines) (lined (line_text line)) more) ∙ ap (λ t. t ++ more) (sym (text_push lines line));
-      are_lines = list_all-append is_line lines (line ∷ []) ∙ ap (λ b. b && (is_line line && true)) read.are_lines ∙ ap (λ b. b && true) ok;
+      text = text_more bytes rest more lines line read.text is;
+      are_lines = are_more lines line read.are_lines ok;
       tokens_are = pushed ∙ ap (λ t. t ++ line_tokens new file (at + (length bytes - length rest)) line) (read.tokens_are ∙ ap (λ t. before ++ t) old_tokens)
           ∙ append_assoc before (lines_tokens new file at lines) (line_tokens new file (at + (length bytes - length rest)) line)
           ∙ ap (λ n. before ++ (lines_tokens new file at lines ++ line_tokens new file n line)) (rest_place at bytes rest lines read.text)
@@ -172,22 +236,21 @@ read_more file at bytes rest more names new before tokens after lines line read 
 front_place : (name bytes : List ℕ) → length (lined (head_text name) ++ bytes) ≡ 12 + length name + length bytes
 front_place name bytes = simp length-append (omega arith)
 
-some_line : (bytes : List ℕ) (lines : List Line) → bytes ≡ lines_text lines ++ [] → 0 < length bytes → 0 < length lines
-some_line bytes [] e h = let z : length bytes ≡ 0 = ap length e in absurd (omega arith)
-some_line bytes (l ∷ ls) e h = omega arith
-
-pub file_read : (file : FileId) (at : ℕ) (name bytes : List ℕ) (names new : List (List ℕ)) (none front tokens all : List Token) (lines : List Line)
-    → is_ascii_name name ≡ true → at ≡ 12 + length name → 0 < length bytes
+pub file_read : (file : FileId) (at : ℕ) (name bytes rest : List ℕ) (found : Found) (names new : List (List ℕ)) (none front tokens all : List Token) (lines : List Line)
+    → is_ascii_name name ≡ true → at ≡ 12 + length name
     → none ≡ [] → front ≡ none ++ head_tokens names file name → Holds names name → Extends names new
-    → AreRead file at bytes [] new front tokens lines → all ≡ tokens ++ last_tokens file (at + length bytes)
+    → AreRead file at bytes rest new front tokens lines → IsWholeFront at found rest lines → bad_line (record { name = name; lines = lines }) rest ≡ None
+    → all ≡ tokens ++ last_tokens file (at + length bytes)
     → AreTokens (lined (head_text name) ++ bytes) file new all (Some (record { name = name; lines = lines }))
-file_read file at name bytes names new none front tokens all lines ok place some empty head held (extra, grown) read last =
+file_read file at name bytes rest found names new none front tokens all lines ok place empty head held (extra, grown) read whole good last =
     let block : Block = record { name = name; lines = lines } in
-    let is : lined (head_text name) ++ bytes ≡ block_text block = ap (λ b. lined (head_text name) ++ b) (read.text ∙ append-nil (lines_text lines)) in
+    let (no_rest, some, part) = whole_file block rest good in
+    let text : bytes ≡ lines_text lines = read.text ∙ ap (λ r. lines_text lines ++ r) no_rest ∙ append-nil (lines_text lines) in
+    let is : lined (head_text name) ++ bytes ≡ block_text block = ap (λ b. lined (head_text name) ++ b) text in
     let size : at + length bytes ≡ length (block_text block) = omega (arith, front_place name bytes, ap length is) in
     let head_now : front ≡ head_tokens new file name = head ∙ ap (λ t. t ++ head_tokens names file name) empty ∙ sym (ap (λ table. head_tokens table file name) grown ∙ head_more names extra file name held) in
     record {
-      is = (is, record { name = ok; lines = read.are_lines }, some_line bytes lines read.text some);
+      is = (is, record { name = ok; lines = read.are_lines; once = whole.once }, some, part);
       tokens_are = last ∙ ap (λ t. t ++ last_tokens file (at + length bytes)) read.tokens_are
           ∙ append_assoc front (lines_tokens new file at lines) (last_tokens file (at + length bytes))
           ∙ ap (λ t. t ++ (lines_tokens new file at lines ++ last_tokens file (at + length bytes))) head_now
@@ -206,31 +269,54 @@ no_indent : (bytes : List ℕ) → ((after : List ℕ) → bytes ≡ codes "    
 no_indent bytes none line rest h e =
     none ((words_text line ++ 10 ∷ []) ++ rest) (e ∙ ap (λ t. lined t ++ rest) (indented line))
 
+or_right : (b : Bool) → (b || true) ≡ true
+or_right true = refl
+or_right false = refl
+
 pub bad_indent : (file : FileId) (at : ℕ) (name bytes : List ℕ) (r : Refusal) → is_ascii_name name ≡ true → at ≡ 12 + length name → ((after : List ℕ) → bytes ≡ codes "    " ++ after → ⊥)
     → r ≡ refusals.Fault (syntax_fault file at) → IsRefused (lined (head_text name) ++ bytes) file r
 bad_indent file at name bytes r ok place none e =
     let block : Block = record { name = name; lines = [] } in
-    let size : at ≡ length (block_text block) = place ∙ omega (arith, front_place name []) in
-    subst (IsRefused (lined (head_text name) ++ bytes) file) (sym e)
-    (at, inr (block, bytes, ap (λ t. t ++ bytes) (sym (append-nil (lined (head_text name)))), record { name = ok; lines = refl }, size, no_indent bytes none, λ _. refl), refl)
+    let size : length (block_text block) ≡ at = sym (place ∙ omega (arith, front_place name [])) in
+    let bad : bad_line block bytes ≡ Some at = rw (or_right (not (length bytes == 0))) (ap Some size) in
+    subst (IsRefused (lined (head_text name) ++ bytes) file) (sym e) (
+      at,
+      inr (
+        block,
+        bytes,
+        ap (λ t. t ++ bytes) (sym (append-nil (lined (head_text name)))),
+        record { name = ok; lines = refl; once = record { kinds = omega arith; attributes = omega arith; assertions = omega arith } },
+        no_next [] bytes (no_indent bytes none),
+        bad,
+      ),
+      refl,
+    )
 
 pub bad_first : (file : FileId) (bytes : List ℕ) (r : Refusal) → 0 < length bytes → NoHead bytes → r ≡ refusals.Fault (syntax_fault file 0) → IsRefused bytes file r
 bad_first file bytes r some none e = subst (IsRefused bytes file) (sym e) (0, inl (refl, some, none), refl)
 
-pub bad_block : (file : FileId) (at : ℕ) (name bytes : List ℕ) (r : Refusal) → is_ascii_name name ≡ true → at ≡ 12 + length name → AreRefused file at bytes r → IsRefused (lined (head_text name) ++ bytes) file r
-bad_block file at name bytes refusals.NoMemory ok place h = tt
-bad_block file at name bytes (refusals.Fault f) ok place (lines, rest, are, is, some, none, fault) =
+pub bad_block : (file : FileId) (at place : ℕ) (name bytes rest : List ℕ) (found : Found) (names : List (List ℕ)) (before tokens : List Token) (lines : List Line) (r : Refusal)
+    → is_ascii_name name ≡ true → AreRead file place bytes rest names before tokens lines → IsWholeFront place found rest lines
+    → bad_line (record { name = name; lines = lines }) rest ≡ Some at → r ≡ refusals.Fault (syntax_fault file at) → IsRefused (lined (head_text name) ++ bytes) file r
+bad_block file at place name bytes rest found names before tokens lines r ok read whole bad e =
     let block : Block = record { name = name; lines = lines } in
-    let size : at + length (lines_text lines) ≡ length (block_text block) = omega (arith, front_place name (lines_text lines)) in (
-      at + length (lines_text lines),
+    subst (IsRefused (lined (head_text name) ++ bytes) file) (sym e) (
+      at,
       inr (
         block,
         rest,
-        ap (λ t. lined (head_text name) ++ t) is ∙ sym (append_assoc (lined (head_text name)) (lines_text lines) rest),
-        record { name = ok; lines = are },
-        size,
-        none,
-        λ e. let z : length rest ≡ 0 = ap length e in absurd (omega arith),
+        ap (λ t. lined (head_text name) ++ t) read.text ∙ sym (append_assoc (lined (head_text name)) (lines_text lines) rest),
+        record { name = ok; lines = read.are_lines; once = whole.once },
+        whole.none,
+        bad,
       ),
-      fault,
+      refl,
     )
+
+-- the places and sizes of a front
+
+pub bad_within_file : (place size at : ℕ) (name bytes rest : List ℕ) (lines : List Line) → place ≡ 12 + length name → bytes ≡ lines_text lines ++ rest → place + length bytes < size
+    → bad_line (record { name = name; lines = lines }) rest ≡ Some at → at < size
+bad_within_file place size at name bytes rest lines is text small bad =
+    let block : Block = record { name = name; lines = lines } in
+    omega (arith, bad_line_within block rest at bad, front_place name (lines_text lines), ap length text, length-append (lines_text lines) rest)

@@ -1,5 +1,5 @@
 -- The tokens of a file of the first form, with their places. It goes once whole files are read.
-use Rattle.std.specs.Prelude.{◌≡◌, ℕ, ◌+◌, ◌*◌, ◌-◌, true, nat_le, if◌then◌else◌, List, [], ◌∷◌, ◌++◌, length, fold, Option, Some, None, All}
+use Rattle.std.specs.Prelude.{◌≡◌, ℕ, ◌+◌, ◌*◌, ◌-◌, true, nat_le, if◌then◌else◌, List, [], ◌∷◌, ◌++◌, length, codes, fold, Option, Some, None, All}
 use Rattle.std.specs.List.{list_any}
 use Rattle.std.specs.Str.{bytes_eq}
 use Rattle.ato_base.specs.NameTable.{number_of}
@@ -16,7 +16,9 @@ use Rattle.ato_base.specs.declared.faults.Refusal.{Refusal}
 use Rattle.ato_base.specs.declared.faults.Refusal.TheVariants as refusals
 use Rattle.ato_lexer.specs.FirstForm.{is_ascii_name, end_text, line_text, lined, block_text, IsFile, IsBad}
 use Rattle.ato_lexer.specs.declared.first_form.Line.{Line}
-use Rattle.ato_lexer.specs.declared.first_form.Line.TheVariants.{Pass, Declaration, Join}
+use Rattle.ato_lexer.specs.declared.first_form.Line.TheVariants.{Pass, Declaration, Join, Kind, Attribute}
+use Rattle.ato_lexer.specs.declared.first_form.Line.TheVariants as lines
+use Rattle.ato_lexer.specs.declared.first_form.Assertion.{Assertion}
 use Rattle.ato_lexer.specs.declared.first_form.Point.{Point}
 use Rattle.ato_lexer.specs.declared.first_form.Point.TheVariants.{Signal, Pin}
 use Rattle.ato_lexer.specs.declared.first_form.End.{End}
@@ -58,6 +60,35 @@ abbrev pub end_tokens : List (List ℕ) → FileId → ℕ → End → List Toke
 end_tokens names file at (Name name) = name_token names file at name ∷ []
 end_tokens names file at (Declared point) = point_tokens names file at point
 
+-- the token of a text in quotes, of which the first stands at a byte
+abbrev pub quoted_token : FileId → ℕ → List ℕ → Token
+quoted_token file at text = token file (kinds.Str (record { file = file; start = at + 1; end = at + 1 + length text })) at (at + 2 + length text)
+
+-- the tokens of the two ends of a range, of which the first stands at a byte
+abbrev pub range_tokens : FileId → ℕ → List ℕ → List ℕ → List Token
+range_tokens file at low high =
+    number_token file at low
+    ∷ token file (kinds.Keyword words.To) (at + 1 + length low) (at + 3 + length low)
+    ∷ number_token file (at + 4 + length low) high ∷ []
+
+-- the tokens of the three lines of a part, each of which begins at a byte
+abbrev pub kind_tokens : List (List ℕ) → FileId → ℕ → List ℕ → List Token
+kind_tokens names file at text =
+    name_token names file (at + 4) (codes "kind") ∷ token file (kinds.Mark marks.Equal) (at + 9) (at + 10) ∷ quoted_token file (at + 11) text ∷ []
+
+abbrev pub attribute_tokens : List (List ℕ) → FileId → ℕ → List ℕ → List Token
+attribute_tokens names file at name =
+    name_token names file (at + 4) name
+    ∷ token file (kinds.Mark marks.Colon) (at + 4 + length name) (at + 5 + length name)
+    ∷ name_token names file (at + 6 + length name) (codes "dimensionless") ∷ []
+
+abbrev pub assertion_tokens : List (List ℕ) → FileId → ℕ → Assertion → List Token
+assertion_tokens names file at a =
+    token file (kinds.Keyword words.Assert) (at + 4) (at + 10)
+    ∷ name_token names file (at + 11) a.name
+    ∷ token file (kinds.Keyword words.Within) (at + 12 + length a.name) (at + 18 + length a.name)
+    ∷ range_tokens file (at + 19 + length a.name) a.low a.high
+
 -- the tokens of a line that begins at a byte, without its line end
 abbrev pub words_tokens : List (List ℕ) → FileId → ℕ → Line → List Token
 words_tokens names file at Pass = token file (kinds.Keyword words.Pass) (at + 4) (at + 8) ∷ []
@@ -66,6 +97,9 @@ words_tokens names file at (Join left right) =
     end_tokens names file (at + 4) left
     ++ (token file (kinds.Mark marks.Tilde) (at + 5 + length (end_text left)) (at + 6 + length (end_text left))
     ∷ end_tokens names file (at + 7 + length (end_text left)) right)
+words_tokens names file at (Kind text) = kind_tokens names file at text
+words_tokens names file at (Attribute name) = attribute_tokens names file at name
+words_tokens names file at (lines.Assertion a) = assertion_tokens names file at a
 
 -- the tokens of a line that begins at a byte
 abbrev pub line_tokens : List (List ℕ) → FileId → ℕ → Line → List Token
@@ -109,6 +143,9 @@ abbrev pub line_names : Line → List (List ℕ)
 line_names Pass = []
 line_names (Declaration point) = point_names point
 line_names (Join left right) = end_names left ++ end_names right
+line_names (Kind text) = codes "kind" ∷ []
+line_names (Attribute name) = name ∷ codes "dimensionless" ∷ []
+line_names (lines.Assertion a) = a.name ∷ []
 
 -- The table holds the text.
 abbrev pub Holds : List (List ℕ) → List ℕ → Type 0

@@ -1,3 +1,4 @@
+pub mod PartLines
 pub mod FirstForm
 pub mod FirstTokens
 pub mod Statements

@@ -1,24 +1,28 @@
 -- What the readers of lines and the writers of tokens hand to each other.
-use Rattle.std.specs.Prelude.{◌≡◌, ℕ, ◌<◌, ◌+◌, true, false, List, ◌++◌, length, codes, All}
+use Rattle.std.specs.Prelude.{◌≡◌, ℕ, ◌+◌, true, false, List, ◌++◌, length, codes, All, Option, Some, None, is_some}
 use Rattle.std.specs.List.{list_all}
 use Rattle.ato_base.specs.declared.places.FileId.{FileId}
 use Rattle.ato_base.specs.declared.tokens.Token.{Token}
-use Rattle.ato_base.specs.declared.faults.Refusal.{Refusal}
-use Rattle.ato_base.specs.declared.faults.Refusal.TheVariants as refusals
-use Rattle.ato_lexer.specs.FirstForm.{is_ascii_name, is_short_number, is_line, point_text, end_text, lines_text, NoLine}
-use Rattle.ato_lexer.specs.FirstTokens.{Holds, line_names, lines_tokens, syntax_fault}
+use Rattle.ato_lexer.specs.FirstForm.{is_ascii_name, is_short_number, is_kind_text, is_attribute_name, is_line, point_text, end_text, lines_text, NoNext}
+use Rattle.ato_lexer.specs.PartLines.{before_attribute, kind_of, attribute_of, AreOnce}
+use Rattle.ato_lexer.specs.PartLines as parts
+use Rattle.ato_lexer.specs.FirstTokens.{Holds, line_names, lines_tokens}
 use Rattle.ato_lexer.specs.declared.first_form.Point.{Point}
 use Rattle.ato_lexer.specs.declared.first_form.Point.TheVariants as points
 use Rattle.ato_lexer.specs.declared.first_form.End.{End}
 use Rattle.ato_lexer.specs.declared.first_form.End.TheVariants as ends
 use Rattle.ato_lexer.specs.declared.first_form.Line.{Line}
 use Rattle.ato_lexer.specs.declared.first_form.Line.TheVariants as lines
+use Rattle.ato_lexer.specs.declared.fronts.Declared as attributes
+use Rattle.ato_lexer.specs.declared.fronts.Found.{Found}
 use Rattle.ato_lexer.specs.declared.statements.PointText.{PointText}
 use Rattle.ato_lexer.specs.declared.statements.PointText.TheVariants.{Signal, NamedPin, NumberedPin}
 use Rattle.ato_lexer.specs.declared.statements.EndText.{EndText}
 use Rattle.ato_lexer.specs.declared.statements.EndText.TheVariants.{Name, Declared}
 use Rattle.ato_lexer.specs.declared.statements.Statement.{Statement}
-use Rattle.ato_lexer.specs.declared.statements.Statement.TheVariants.{Pass, Declaration, Join}
+use Rattle.ato_lexer.specs.declared.statements.Statement.TheVariants.{Pass, Declaration, Join, Kind, Attribute, Assertion}
+use Rattle.ato_lexer.specs.declared.statements.AssertionText.{AssertionText}
+use Rattle.ato_lexer.specs.declared.first_form.Assertion as asserted
 
 -- the point that is read
 abbrev pub point_of : PointText → Point
@@ -31,11 +35,18 @@ abbrev pub end_of : EndText → End
 end_of (Name name) = ends.Name name.now
 end_of (Declared point) = ends.Declared (point_of point)
 
+-- the assertion that is read
+abbrev pub assertion_of : AssertionText → asserted.Assertion
+assertion_of a = record { name = a.name.now; low = a.low.now; high = a.high.now }
+
 -- the line that a statement is read from
 abbrev pub line_of : Statement → Line
 line_of Pass = lines.Pass
 line_of (Declaration point) = lines.Declaration (point_of point)
 line_of (Join left right) = lines.Join (end_of left) (end_of right)
+line_of (Kind text) = lines.Kind text.now
+line_of (Attribute name) = lines.Attribute name.now
+line_of (Assertion a) = lines.Assertion (assertion_of a)
 
 -- The name or label is of the form, and the kind of label is the right one.
 abbrev pub IsPointText : PointText → Type 0
@@ -47,10 +58,18 @@ abbrev pub IsEndText : EndText → Type 0
 IsEndText (Name name) = is_ascii_name name.now ≡ true
 IsEndText (Declared point) = IsPointText point
 
+pub record IsAssertionText (a : AssertionText) : Type 0 where
+  pub name : is_ascii_name a.name.now ≡ true
+  pub low : is_short_number a.low.now ≡ true
+  pub high : is_short_number a.high.now ≡ true
+
 abbrev pub IsStatement : Statement → Type 0
 IsStatement Pass = Unit {0}
 IsStatement (Declaration point) = IsPointText point
 IsStatement (Join left right) = IsEndText left × IsEndText right
+IsStatement (Kind text) = is_kind_text text.now ≡ true
+IsStatement (Attribute name) = is_attribute_name name.now ≡ true
+IsStatement (Assertion a) = IsAssertionText a
 
 -- two texts with the sign of a join between them
 abbrev pub with_tilde : List ℕ → List ℕ → List ℕ
@@ -61,6 +80,22 @@ abbrev pub words_text : Line → List ℕ
 words_text lines.Pass = codes "pass"
 words_text (lines.Declaration point) = point_text point
 words_text (lines.Join left right) = with_tilde (end_text left) (end_text right)
+words_text (lines.Kind text) = codes "kind = \"" ++ (text ++ codes "\"")
+words_text (lines.Attribute name) = name ++ codes ": dimensionless"
+words_text (lines.Assertion a) = codes "assert " ++ (a.name ++ (codes " within " ++ (a.low ++ (codes " to " ++ a.high))))
+
+-- the attribute that was found among lines, of which the first is at a place of the file
+abbrev pub IsDeclared : Option attributes.Declared → ℕ → List Line → Type 0
+IsDeclared None place lines = attribute_of lines ≡ None
+IsDeclared (Some found) place lines =
+    (attribute_of lines ≡ Some found.name.now)
+    × (found.at ≡ place + length (lines_text (before_attribute lines)))
+
+-- These of a part's lines stand among lines, of which the first is at a place of the file.
+pub record IsFound (found : Found) (place : ℕ) (lines : List Line) : Type 0 where
+  pub kind : found.kind ≡ is_some (kind_of lines)
+  pub attribute : IsDeclared found.attribute place lines
+  pub assertion : found.assertion ≡ is_some (parts.assertion_of lines)
 
 -- Some lines were read from the front of the bytes, of which the first is at a place of the file, and
 -- their tokens were put behind others.
@@ -70,10 +105,8 @@ pub record AreRead (file : FileId) (at : ℕ) (bytes rest : List ℕ) (names : L
   pub tokens_are : tokens ≡ before ++ lines_tokens names file at lines
   pub held : All (λ line. All (Holds names) (line_names line)) lines
 
--- Why the bytes, of which the first is at a place of the file, were not read as lines: want of memory,
--- or the first of them that is no line.
-abbrev pub AreRefused : FileId → ℕ → List ℕ → Refusal → Type 0
-AreRefused file at bytes refusals.NoMemory = Unit {0}
-AreRefused file at bytes (refusals.Fault f) =
-    (lines : List Line) × (rest : List ℕ) × (list_all is_line lines ≡ true) × (bytes ≡ lines_text lines ++ rest)
-    × (0 < length rest) × NoLine rest × (f ≡ syntax_fault file (at + length (lines_text lines)))
+-- They are all lines that follow one another in the form, and what was found among them is right.
+pub record IsWholeFront (place : ℕ) (all : Found) (rest : List ℕ) (lines : List Line) : Type 0 where
+  pub once : AreOnce lines
+  pub found : IsFound all place lines
+  pub none : NoNext lines rest

@@ -20,7 +20,19 @@ pub enum End {
     Declared(Point),
 }
 
-/// A line of the block.
+/// What is asserted of an attribute: `assert NAME within LOW to HIGH`.
+#[derive(Debug, Drop)]
+pub struct Assertion {
+    /// The name behind `assert`.
+    pub name: Text,
+    /// The digits before `to`, as they are written.
+    pub low: Text,
+    /// The digits behind `to`, as they are written.
+    pub high: Text,
+}
+
+/// A line of the block. Those of the last three kinds describe its part: all three stand in a block, or
+/// none of them.
 #[derive(Debug, Drop)]
 pub enum Line {
     /// It does nothing.
@@ -29,6 +41,12 @@ pub enum Line {
     Declaration(Point),
     /// It joins its two ends, and declares those that are written as declarations.
     Join(End, End),
+    /// It states the kind of the part: `kind = "TEXT"`, with the text between the quotes.
+    Kind(Text),
+    /// It declares an attribute of the part, by its name: `NAME: dimensionless`.
+    Attribute(Text),
+    /// It asserts between which values an attribute lies.
+    Assertion(Assertion),
 }
 
 /// The one block of a file: its name and its lines.

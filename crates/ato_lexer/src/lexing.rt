@@ -3,11 +3,15 @@ ghost use Rattle.ato_lexer.specs.declared.first_form.Block.{Block};
 ghost use Rattle.ato_lexer.specs.declared.first_form.Line.{Line};
 ghost use Rattle.ato_lexer.specs.FirstForm.{is_ascii_name, head_text, lined};
 ghost use Rattle.ato_lexer.specs.FirstTokens.{AreTokens, IsRefused, Extends, syntax_fault};
-ghost use Rattle.ato_lexer.specs.Statements.{AreRead, AreRefused};
+ghost use Rattle.ato_lexer.specs.Statements.{AreRead, IsWholeFront};
 
-use crate::lines::{after, first_line, head_of, next_statement};
+use crate::fronts::Front;
+use crate::lines::head_of;
+use crate::pieces::{after, first_line};
 use crate::writing::{push, push_head, push_last, push_statement};
-use ato_base::{Fault, FaultKind, FileId, List, NameTable, Place, Refusal, Span, Token, TokenKind};
+use ato_base::{
+    Fault, FaultKind, FileId, List, NameTable, NoMemory, Place, Refusal, Span, Token, TokenKind,
+};
 use std::alloc::Global;
 
 /// The fault of a line that begins at a byte of the file and is not of the form.
@@ -28,33 +32,32 @@ fn bad_line(alloc: Global, file: FileId, at: usize) -> Refusal
     })
 }
 
-/// Puts the tokens of the lines that the bytes are behind the others. The first byte is at a place
-/// of the file.
-fn push_lines(
-    alloc: Global,
+/// Puts the tokens of the lines at the front of the bytes that follow one another in the form behind
+/// the others. The first byte is at a place of the file.
+fn push_lines<'a>(
     tokens: &mut List<Token>,
     names: &mut NameTable,
     file: FileId,
-    front: usize,
-    bytes: &[u8],
-) -> Result<(), Refusal>
-    requires { front + length bytes.now < 2 ^ 32 }
-    ensures read { OnOk result ((lines : List Line) × AreRead file front bytes.now [] names.new tokens.old tokens.new lines) }
-    ensures refused { IfErr result (AreRefused file front bytes.now) }
+    place: usize,
+    bytes: &'a [u8],
+) -> Result<Front<'a>, NoMemory>
+    requires { place + length bytes.now < 2 ^ 32 }
+    ensures read { IfOk result (λ front. (lines : List Line)
+        × AreRead file place bytes.now front.rest.now names.new tokens.old tokens.new lines
+        × IsWholeFront place front.found front.rest.now lines) }
     ensures names { Extends names.old names.new }
 {
-    let mut rest = bytes;
-    while rest.len() != 0 {
-        let at = front + (bytes.len() - rest.len());
-        match next_statement(rest) {
-            None => return Err(bad_line(alloc, file, at)),
-            Some((statement, more)) => {
+    let mut front = Front::new(bytes);
+    loop {
+        let at = place + (bytes.len() - front.rest.len());
+        match front.next(at) {
+            None => return Ok(front),
+            Some((statement, next)) => {
                 push_statement(tokens, names, file, at, statement)?;
-                rest = more;
+                front = next;
             }
         }
     }
-    Ok(())
 }
 
 /// The tokens of a file whose first line has a name. The bytes come after that line.
@@ -71,14 +74,17 @@ fn lex_block(
     ensures refused { IfErr result (IsRefused (lined (head_text name.now) ++ bytes.now) file) }
     ensures names { Extends names.old names.new }
 {
-    let front = 12 + name.len();
+    let place = 12 + name.len();
     let Some(_) = after(bytes, b"    ") else {
-        return Err(bad_line(alloc, file, front));
+        return Err(bad_line(alloc, file, place));
     };
     let mut tokens = List::new(alloc);
     push_head(&mut tokens, names, file, name)?;
-    push_lines(alloc, &mut tokens, names, file, front, bytes)?;
-    push_last(&mut tokens, file, front + bytes.len())?;
+    let front = push_lines(&mut tokens, names, file, place, bytes)?;
+    if let Some(at) = front.bad_line(place, bytes) {
+        return Err(bad_line(alloc, file, at));
+    }
+    push_last(&mut tokens, file, place + bytes.len())?;
     Ok(tokens)
 }
 

@@ -1,6 +1,7 @@
 ghost use Rattle.std.specs.Prelude.{◌≡◌};
-ghost use Rattle.std.specs.List.{list_all};
-ghost use Rattle.ato_lexer.specs.FirstForm.{is_digit, is_letter, is_name_byte, starts_with_letter, is_ascii_name, is_short_number};
+ghost use Rattle.std.specs.List.{list_all, list_any};
+ghost use Rattle.std.specs.Str.{bytes_eq};
+ghost use Rattle.ato_lexer.specs.FirstForm.{is_digit, is_letter, is_name_byte, starts_with_letter, is_ascii_name, is_short_number, is_kind_byte, is_kind_text, reserved_names};
 
 use ato_base::is_keyword;
 
@@ -55,4 +56,29 @@ pub(crate) fn is_short_number(text: &[u8]) -> bool
     ensures { result ≡ is_short_number text.now }
 {
     1 <= text.len() && text.len() <= 18 && has_digits(text)
+}
+
+fn has_kind_bytes(text: &[u8]) -> bool
+    ensures { result ≡ list_all is_kind_byte text.now }
+{
+    text.iter().all(|byte| is_name_byte(*byte) && *byte != b'_')
+}
+
+/// Whether a text is one or more ASCII letters and digits.
+pub(crate) fn is_kind_text(text: &[u8]) -> bool
+    ensures { result ≡ is_kind_text text.now }
+{
+    1 <= text.len() && has_kind_bytes(text)
+}
+
+/// Whether a text is a name that no attribute may have.
+pub(crate) fn is_reserved(text: &[u8]) -> bool
+    ensures { result ≡ list_any (bytes_eq text.now) reserved_names }
+{
+    text == b"kind".as_slice()
+        || text == b"part".as_slice()
+        || text == b"package".as_slice()
+        || text == b"footprint".as_slice()
+        || text == b"price".as_slice()
+        || text == b"designator_prefix".as_slice()
 }

@@ -18,10 +18,22 @@ pub(crate) enum EndText<'a> {
     Declared(PointText<'a>),
 }
 
+/// What is asserted of an attribute.
+#[derive(Clone, Copy, Debug)]
+pub(crate) struct AssertionText<'a> {
+    pub(crate) name: &'a str,
+    pub(crate) low: &'a [u8],
+    pub(crate) high: &'a [u8],
+}
+
 /// A line of the block.
 #[derive(Clone, Copy, Debug)]
 pub(crate) enum Statement<'a> {
     Pass,
     Declaration(PointText<'a>),
     Join(EndText<'a>, EndText<'a>),
+    /// The text between the quotes.
+    Kind(&'a [u8]),
+    Attribute(&'a str),
+    Assertion(AssertionText<'a>),
 }

@@ -6,10 +6,11 @@ ghost use Rattle.ato_lexer.specs.declared.first_form.Line.{Line};
 ghost use Rattle.ato_lexer.specs.declared.first_form.Point.{Point};
 ghost use Rattle.ato_lexer.specs.Statements.{point_of, end_of, line_of, IsPointText, IsEndText, IsStatement};
 
+use crate::part_writing::{push_assertion, push_attribute, push_kind};
 use crate::statements::{EndText, PointText, Statement};
 use ato_base::{FileId, Keyword, List, Mark, NameTable, NoMemory, Span, Token, TokenKind};
 
-fn span(file: FileId, start: usize, end: usize) -> Span
+pub(crate) fn span(file: FileId, start: usize, end: usize) -> Span
     requires start { start < 2 ^ 32 }
     requires end { end < 2 ^ 32 }
     ensures { result ≡ record { file = file; start = start; end = end } }
@@ -40,7 +41,7 @@ pub(crate) fn push(
 }
 
 /// Puts the token of a name behind the others, and gives the byte after the name.
-fn push_name(
+pub(crate) fn push_name(
     tokens: &mut List<Token>,
     names: &mut NameTable,
     file: FileId,
@@ -75,7 +76,7 @@ fn small_value(digits: &[u8]) -> Option<u16>
 }
 
 /// Puts the token of a number behind the others, and gives the byte after the number.
-fn push_number(
+pub(crate) fn push_number(
     tokens: &mut List<Token>,
     file: FileId,
     at: usize,
@@ -96,7 +97,7 @@ fn push_number(
     Ok(stop)
 }
 
-fn push_keyword(
+pub(crate) fn push_keyword(
     tokens: &mut List<Token>,
     file: FileId,
     keyword: Keyword,
@@ -108,6 +109,20 @@ fn push_keyword(
     ensures { OnOk result (tokens.new ≡ tokens.old ++ token file (TokenKind.Keyword keyword) start end ∷ []) }
 {
     push(tokens, file, TokenKind::Keyword(keyword), start, end)
+}
+
+pub(crate) fn push_mark(
+    tokens: &mut List<Token>,
+    file: FileId,
+    mark: Mark,
+    start: usize,
+    end: usize,
+) -> Result<(), NoMemory>
+    requires start { start < 2 ^ 32 }
+    requires end { end < 2 ^ 32 }
+    ensures { OnOk result (tokens.new ≡ tokens.old ++ token file (TokenKind.Mark mark) start end ∷ []) }
+{
+    push(tokens, file, TokenKind::Mark(mark), start, end)
 }
 
 fn push_newline(tokens: &mut List<Token>, file: FileId, at: usize) -> Result<(), NoMemory>
@@ -238,8 +253,7 @@ fn push_join(
     ensures names { Extends names.old names.new }
 {
     let stop = push_end(tokens, names, file, at + 4, left)?;
-    let tilde = TokenKind::Mark(Mark::Tilde);
-    push(tokens, file, tilde, stop + 1, stop + 2)?;
+    push_mark(tokens, file, Mark::Tilde, stop + 1, stop + 2)?;
     push_end(tokens, names, file, stop + 3, right)
 }
 
@@ -263,6 +277,9 @@ fn push_words(
         Statement::Pass => push_pass(tokens, file, at),
         Statement::Declaration(point) => push_point(tokens, names, file, at + 4, point),
         Statement::Join(left, right) => push_join(tokens, names, file, at, left, right),
+        Statement::Kind(text) => push_kind(tokens, names, file, at, text),
+        Statement::Attribute(name) => push_attribute(tokens, names, file, at, name),
+        Statement::Assertion(assertion) => push_assertion(tokens, names, file, at, assertion),
     }
 }
 
@@ -299,13 +316,7 @@ pub(crate) fn push_head(
     let size = name.len();
     push_keyword(tokens, file, Keyword::Component, 0, 9)?;
     push_name(tokens, names, file, 10, name)?;
-    push(
-        tokens,
-        file,
-        TokenKind::Mark(Mark::Colon),
-        10 + size,
-        11 + size,
-    )?;
+    push_mark(tokens, file, Mark::Colon, 10 + size, 11 + size)?;
     push_newline(tokens, file, 11 + size)?;
     push(tokens, file, TokenKind::Indent, 16 + size, 16 + size)
 }

@@ -1,4 +1,4 @@
-use super::{built, files, words};
+use super::{NO_ROWS, built, files, words};
 use crate::run;
 use ato_base::{List, NoMemory};
 use ato_outside::{MemShelf, MemSink, MemTray, Sink, SinkFailed, SureShelf, SureTray};
@@ -9,7 +9,8 @@ const SOURCE: &[u8] = b"component E:\n    pin 1\n";
 
 const JOB: &str = "build main.ato:E cat.csv";
 
-const SUMMARY: &str = "result built\nnets 1\nparts 1\n";
+const SUMMARY: &str =
+    "result built\nnets 1\nparts 1\nslots 0\nvariables 0\nchecks 0\ngiven 0\nnodes 0\n";
 
 /// A list of one item.
 fn one<T: Copy>(alloc: Global, item: T) -> Result<List<T>, NoMemory> {
@@ -18,17 +19,17 @@ fn one<T: Copy>(alloc: Global, item: T) -> Result<List<T>, NoMemory> {
     Ok(items)
 }
 
-/// The netlist of the source.
-fn netlist(alloc: Global) -> Result<Vec<u8>, NoMemory> {
+/// A file that a run without a failure puts.
+fn whole(alloc: Global, name: &str) -> Result<Vec<u8>, NoMemory> {
     let (_, tray, _) = built(alloc, SOURCE, JOB)?;
     let mut bytes = Vec::new(alloc);
-    if let Some(put) = tray.get("out.net") {
+    if let Some(put) = tray.get(name) {
         bytes.extend_from_slice(put)?;
     }
     Ok(bytes)
 }
 
-/// What of the netlist is put.
+/// What of a file is put.
 #[derive(Clone, Copy)]
 enum Put {
     Nothing,
@@ -39,28 +40,51 @@ enum Put {
 /// How many bytes a failing put keeps.
 const KEPT: usize = 5;
 
+/// What is held of a file.
+fn held(file: &[u8], put: Put) -> Option<&[u8]> {
+    match put {
+        Put::Nothing => None,
+        Put::Prefix => file.get(..KEPT),
+        Put::Whole => Some(file),
+    }
+}
+
 #[test]
 fn each_failing_call_is_told(rt: HostRuntime) -> Result<(), Fail> {
     let alloc = rt.alloc();
-    let netlist = netlist(alloc)?;
-    assert!(rt; netlist.len() > KEPT);
-    // The numbers of the read, the put and the print that fail, where one does.
-    for (line, read, put, print, code, printed, left) in [
-        (JOB, 0, 0, 0, 0, SUMMARY, Put::Whole),
-        (JOB, 2, 2, 2, 0, SUMMARY, Put::Whole),
-        (JOB, 1, 0, 0, 5, "read fault main.ato\n", Put::Nothing),
-        (JOB, 1, 1, 2, 5, "read fault main.ato\n", Put::Nothing),
-        (JOB, 1, 0, 1, 6, "", Put::Nothing),
-        (JOB, 0, 1, 0, 6, "write fault out.net\n", Put::Prefix),
-        (JOB, 0, 1, 4, 6, "write fault out.net\n", Put::Prefix),
-        (JOB, 0, 1, 3, 6, "write fault out.net", Put::Prefix),
-        (JOB, 0, 1, 2, 6, "write fault ", Put::Prefix),
-        (JOB, 0, 1, 1, 6, "", Put::Prefix),
-        (JOB, 0, 0, 1, 6, "", Put::Whole),
-        ("build main.ato:F cat.csv", 0, 0, 1, 6, "", Put::Nothing),
-        ("make", 1, 1, 1, 6, "", Put::Nothing),
+    let netlist = whole(alloc, "out.net")?;
+    let certificate = whole(alloc, "out.cert")?;
+    let (nothing, prefix, all) = (Put::Nothing, Put::Prefix, Put::Whole);
+    // The numbers of the read, the put and the print that fail, where one does, and what is put of the netlist
+    // and of the certificate.
+    for (line, read, put, print, code, printed, net, cert) in [
+        (JOB, 0, 0, 0, 0, SUMMARY, all, all),
+        (JOB, 3, 3, 2, 0, SUMMARY, all, all),
+        (JOB, 1, 0, 0, 5, "read fault main.ato\n", nothing, nothing),
+        (JOB, 2, 0, 0, 5, "read fault cat.csv\n", nothing, nothing),
+        (JOB, 1, 1, 2, 5, "read fault main.ato\n", nothing, nothing),
+        (JOB, 1, 0, 1, 6, "", nothing, nothing),
+        (JOB, 0, 1, 0, 6, "write fault out.net\n", prefix, nothing),
+        (JOB, 0, 2, 0, 6, "write fault out.cert\n", all, prefix),
+        (JOB, 0, 1, 4, 6, "write fault out.net\n", prefix, nothing),
+        (JOB, 0, 1, 3, 6, "write fault out.net", prefix, nothing),
+        (JOB, 0, 1, 2, 6, "write fault ", prefix, nothing),
+        (JOB, 0, 1, 1, 6, "", prefix, nothing),
+        (JOB, 0, 0, 1, 6, "", all, all),
+        ("build main.ato:F cat.csv", 2, 0, 1, 6, "", nothing, nothing),
+        (
+            "build main.ato:F cat.csv",
+            2,
+            0,
+            0,
+            1,
+            "fault F11 NameUnknown word 1\n",
+            nothing,
+            nothing,
+        ),
+        ("make", 1, 1, 1, 6, "", nothing, nothing),
     ] {
-        let mut shelf = MemShelf::new(files(alloc, SOURCE)?, one(alloc, read)?);
+        let mut shelf = MemShelf::new(files(alloc, SOURCE, NO_ROWS)?, one(alloc, read)?);
         let mut tray = MemTray::new(alloc, one(alloc, (put, KEPT as u32))?);
         let mut sink = MemSink::new(alloc, 200, one(alloc, print)?)?;
         let status = run(
@@ -76,12 +100,14 @@ fn each_failing_call_is_told(rt: HostRuntime) -> Result<(), Fail> {
             printed.as_bytes(),
             "{line} {read} {put} {print}"
         );
-        let held = match left {
-            Put::Nothing => None,
-            Put::Prefix => Some(&netlist[..KEPT]),
-            Put::Whole => Some(netlist.as_slice()),
-        };
-        assert!(rt; tray.get("out.net") == held, "{line} {read} {put} {print}");
+        assert!(rt;
+            tray.get("out.net") == held(&netlist, net),
+            "{line} {read} {put} {print}"
+        );
+        assert!(rt;
+            tray.get("out.cert") == held(&certificate, cert),
+            "{line} {read} {put} {print}"
+        );
     }
     Ok(())
 }
@@ -89,12 +115,12 @@ fn each_failing_call_is_told(rt: HostRuntime) -> Result<(), Fail> {
 #[test]
 fn a_put_may_fail_after_each_length(rt: HostRuntime) -> Result<(), Fail> {
     let alloc = rt.alloc();
-    let netlist = netlist(alloc)?;
+    let netlist = whole(alloc, "out.net")?;
     let words = words(alloc, JOB)?;
     let end: u32 = 300;
     assert!(rt; netlist.len() < end as usize);
     for kept in 0..end {
-        let mut shelf = SureShelf::new(files(alloc, SOURCE)?);
+        let mut shelf = SureShelf::new(files(alloc, SOURCE, NO_ROWS)?);
         let mut tray = MemTray::new(alloc, one(alloc, (1, kept))?);
         let mut sink = MemSink::new(alloc, 200, List::new(alloc))?;
         let status = run(alloc, &words, &mut shelf, &mut tray, &mut sink);
@@ -143,12 +169,12 @@ impl Sink for SlowSink {
 #[test]
 fn a_print_may_go_in_pieces_and_stop(rt: HostRuntime) -> Result<(), Fail> {
     let alloc = rt.alloc();
-    let netlist = netlist(alloc)?;
+    let netlist = whole(alloc, "out.net")?;
     let words = words(alloc, JOB)?;
-    let whole = SUMMARY.len();
+    let size = SUMMARY.len();
     for most in [1, 3, 200] {
-        for room in 0..whole + 2 {
-            let mut shelf = SureShelf::new(files(alloc, SOURCE)?);
+        for room in 0..size + 2 {
+            let mut shelf = SureShelf::new(files(alloc, SOURCE, NO_ROWS)?);
             let mut tray = SureTray::new(alloc);
             let mut sink = SlowSink {
                 bytes: Vec::new(alloc),
@@ -157,9 +183,9 @@ fn a_print_may_go_in_pieces_and_stop(rt: HostRuntime) -> Result<(), Fail> {
                 faults: 0,
             };
             let status = run(alloc, &words, &mut shelf, &mut tray, &mut sink);
-            let code = if room < whole { 6 } else { 0 };
+            let code = if room < size { 6 } else { 0 };
             assert_eq!(rt; status.code(), code, "{most} {room}");
-            let printed = &SUMMARY.as_bytes()[..room.min(whole)];
+            let printed = &SUMMARY.as_bytes()[..room.min(size)];
             assert_eq!(rt; sink.bytes.as_slice(), printed, "{most} {room}");
             assert!(rt;
                 tray.get("out.net") == Some(netlist.as_slice()),

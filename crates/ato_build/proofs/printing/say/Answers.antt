@@ -11,4 +11,4 @@ returns-in-OutOfMemory-clause-told g c =
 pub returns-in-WriteFault-clause-told : goal.returns-in-WriteFault-clause-told
 returns-in-WriteFault-clause-told g c =
     subst (λ text. Prints (g.O.Sink.written c.args.out.now) (g.O.Sink.written c.print_write_fault.new.out) text c.print_write_fault.result)
-    (ap write_fault_text c.as_str.ensures.value ∙ ap said_text (sym c.in-WriteFault.is)) c.print_write_fault.ensures.told
+    (ap write_fault_text c.as_str.ensures ∙ ap said_text (sym c.in-WriteFault.is)) c.print_write_fault.ensures.told

@@ -1,20 +1,34 @@
-use Rattle.std.proofs.Common.{◌∷◌, [], ◌++◌}
+use Rattle.std.proofs.Common.{◌∷◌, [], ◌++◌, sym, arith, append-nil}
 use Rattle.ato_lexer.specs.Statements.{line_of}
 use Rattle.ato_lexer.proofs.Numbers.{extends_more}
-use Rattle.ato_lexer.proofs.Reading.{read_more, statement_line}
+use Rattle.ato_lexer.proofs.Reading.{rest_place, read_none, read_more, statement_line}
 use Rattle.ato_lexer.proofs.lexing.push_lines.Goals as goal
 
-pub loop-rest-preserved : goal.loop-rest-preserved
-loop-rest-preserved c =
-    let (lines, read) = c.loop-rest.invariant.read in
+pub loop-front-init : goal.loop-front-init
+loop-front-init c = record {
+  read = (
+    [],
+    read_none c.args.file c.args.place c.args.bytes.now c.new-front.result.rest.now c.args.names.now c.args.tokens.now c.new-front.ensures.rest,
+    record { kinds = omega arith; attributes = omega arith; assertions = omega arith },
+    c.new-front.ensures.found c.args.place,
+  );
+  names = ([], sym (append-nil c.args.names.now));
+}
+
+pub loop-front-preserved : goal.loop-front-preserved
+loop-front-preserved c =
+    let (lines, read, once, found) = c.loop-front.invariant.read in
     let line = line_of c.in-Some.statement in
+    let next = c.in-Some.ensures.front c.args.place lines once found (rest_place c.args.place c.args.bytes.now c.loop-front.front.rest.now lines read.text) in
     record {
       read = (
         lines ++ line ∷ [],
-        read_more c.args.file c.args.front c.args.bytes.now c.loop-rest.rest.now c.in-Some.more.now
-            c.loop-rest.names c.push_statement.new.names c.args.tokens.now c.loop-rest.tokens c.push_statement.new.tokens lines line
-            read c.in-Some.ensures.0 (statement_line c.in-Some.statement c.in-Some.ensures.1) c.push_statement.ensures.names
+        read_more c.args.file c.args.place c.args.bytes.now c.loop-front.front.rest.now c.in-Some.next.rest.now
+            c.loop-front.names c.push_statement.new.names c.args.tokens.now c.loop-front.tokens c.push_statement.new.tokens lines line
+            read c.in-Some.ensures.line.0 (statement_line c.in-Some.statement c.in-Some.ensures.line.1) c.push_statement.ensures.names
             c.in_ok-push_statement-in-Some.ensures.pushed c.in_ok-push_statement-in-Some.ensures.held,
+        next.0,
+        next.1,
       );
-      names = extends_more c.args.names.now c.loop-rest.names c.push_statement.new.names c.loop-rest.invariant.names c.push_statement.ensures.names;
+      names = extends_more c.args.names.now c.loop-front.names c.push_statement.new.names c.loop-front.invariant.names c.push_statement.ensures.names;
     }

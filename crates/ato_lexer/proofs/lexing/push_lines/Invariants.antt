@@ -1,14 +1,15 @@
 use Rattle.std.proofs.Common.{List, length}
 use Rattle.ato_lexer.specs.FirstTokens.{Extends}
-use Rattle.ato_lexer.specs.Statements.{AreRead}
+use Rattle.ato_lexer.specs.PartLines.{AreOnce}
+use Rattle.ato_lexer.specs.Statements.{AreRead, IsFound}
 use Rattle.ato_lexer.specs.declared.first_form.Line.{Line}
 use Rattle.ato_lexer.proofs.lexing.push_lines.Given as goal
 
-abbrev pub invariant-loop-rest : goal.invariant-loop-rest
-invariant-loop-rest l = record {
-  read : (lines : List Line) × AreRead l.file l.front l.bytes l.rest l.names l.initial.tokens l.tokens lines;
+abbrev pub invariant-loop-front : goal.invariant-loop-front
+invariant-loop-front l = record {
+  read : (lines : List Line) × AreRead l.file l.place l.bytes l.front.rest.now l.names l.initial.tokens l.tokens lines × AreOnce lines × IsFound l.front.found l.place lines;
   names : Extends l.initial.names l.names;
 }
 
-abbrev pub decreases-loop-rest : goal.decreases-loop-rest
-decreases-loop-rest l = length l.rest
+abbrev pub decreases-loop-front : goal.decreases-loop-front
+decreases-loop-front l = length l.front.rest.now

@@ -7,8 +7,8 @@ pub returns-clause-pushed : goal.returns-clause-pushed
 returns-clause-pushed c =
     on_ok_weaker c.push_end-2.result
     (join_pushed c.args.file c.args.at c.in_ok-stop.stop (end_of c.args.left) (end_of c.args.right) c.push_end.new.names c.push_end-2.new.names
-    c.args.tokens.now c.push_end.new.tokens c.push.new.tokens c.push_end-2.new.tokens
-    c.in_ok-stop.ensures.stop c.push_end-2.ensures.names c.in_ok-stop.ensures.held c.in_ok-stop.ensures.pushed c.in_ok-push.ensures)
+    c.args.tokens.now c.push_end.new.tokens c.push_mark.new.tokens c.push_end-2.new.tokens
+    c.in_ok-stop.ensures.stop c.push_end-2.ensures.names c.in_ok-stop.ensures.held c.in_ok-stop.ensures.pushed c.in_ok-push_mark.ensures)
     c.push_end-2.ensures.pushed
 
 pub returns-clause-held : goal.returns-clause-held

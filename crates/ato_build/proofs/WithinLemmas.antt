@@ -1,0 +1,45 @@
+-- Every fault of an entry lies in its source.
+use Rattle.std.proofs.Common.{ℕ, ◌≤◌, List, ◌∷◌, ◌++◌, length, ap, sym, subst, arith, inl, inr, length-append}
+use Rattle.std.specs.Prelude.{Some, Bool}
+use Rattle.std.proofs.lemmas.List.Concat.{flat_map-append}
+use Rattle.ato_base.specs.declared.faults.Fault.{Fault}
+use Rattle.ato_lexer.specs.FirstForm.{lined, line_text, head_text, lines_text, IsFile}
+use Rattle.ato_lexer.proofs.FirstFormLaws.{bad_within}
+use Rattle.ato_catalog.proofs.PlaceLaws.{IsCellFault}
+use Rattle.ato_lexer.specs.declared.first_form.Line.{Line}
+use Rattle.ato_lexer.specs.declared.first_form.Block.{Block}
+use Rattle.ato_build.specs.Entry.{StandsInEntry, IsLineFault}
+use Rattle.ato_build.specs.FirstPoints.{IsFirstLineAt}
+use Rattle.ato_build.specs.Found.{Whole}
+use Rattle.ato_build.specs.Texts.{LiesWithin}
+use Rattle.ato_build.specs.declared.words.Build.{Build}
+
+front_within : (front back : List Line) → length (lines_text front) ≤ length (lines_text (front ++ back))
+front_within front back = omega (arith, ap length (flat_map-append (λ l. lined (line_text l)) front back), length-append (lines_text front) (lines_text back))
+
+-- a line of a block lies in its source
+line_within : (source : List ℕ) (test : Line → Bool) (block : Block) (at : ℕ) → IsFile source (Some block) → IsFirstLineAt test block at → at ≤ length source
+line_within source test block at is (front, line, back, lines_are, fine, bad, place) =
+    omega (
+      arith,
+      place,
+      length-append (lined (head_text block.name)) (lines_text front),
+      ap length is.0,
+      length-append (lined (head_text block.name)) (lines_text block.lines),
+      ap (λ l. length (lines_text l)) lines_are,
+      front_within front (line ∷ back),
+    )
+
+line_fault_within : (source : List ℕ) (block : Block) (f : Fault) → IsFile source (Some block) → IsLineFault block f → LiesWithin source f.at
+line_fault_within source block f is (inl (at, unknown, same)) = subst (λ g. LiesWithin source g.at) (sym same) (line_within source _ block at is unknown)
+line_fault_within source block f is (inr (known, (at, empty, same))) = subst (λ g. LiesWithin source g.at) (sym same) (line_within source _ block at is empty)
+
+-- A fault that stands in a whole entry lies in it.
+pub stands_within : (build : Build) (source : List ℕ) (f : Fault) → StandsInEntry build (Whole source) f → LiesWithin source f.at
+stands_within build source f (inl (at, bad, same)) = subst (λ g. LiesWithin source g.at) (sym same) (bad_within source at bad)
+stands_within build source f (inr (inl (lacks, same))) = subst (λ g. LiesWithin source g.at) (sym same) tt
+stands_within build source f (inr (inr (block, is, named, fault))) = line_fault_within source block f is fault
+
+-- A fault in a cell needs no byte of the source.
+pub cell_within : (source : List ℕ) (f : Fault) → IsCellFault f → LiesWithin source f.at
+cell_within source f h = subst (LiesWithin source) (sym h.at) tt

@@ -1,0 +1,185 @@
+//! What a build decides: a good pick, or that none is.
+ghost use Rattle.std.specs.Prelude.{◌≡◌, ◌∷◌, ◌<◌, ◌^◌, [], true, IfOk, string_bytes};
+ghost use Rattle.std.specs.List.{list_all};
+ghost use Rattle.std.specs.Option.{option_copied};
+ghost use Rattle.ato_lexer.specs.FirstForm.{is_line};
+ghost use Rattle.ato_catalog.specs.Catalogue.{ShowsContents};
+ghost use Rattle.ato_catalog.specs.Contents.{Contents, numbered};
+ghost use Rattle.ato_catalog.specs.WellMade.{IsWellMade};
+ghost use Rattle.ato_cert.specs.Nodes as counting;
+ghost use Rattle.ato_build.specs.Answers.{IsEnd};
+ghost use Rattle.ato_build.specs.Decisions.{IsDecision, net_output, cert_output};
+ghost use Rattle.ato_build.specs.DecisionParts.{PutsBuilt, PutsRefuted};
+ghost use Rattle.ato_build.specs.FirstParts.{part_of, slot_count, HasRanges, comp_value};
+ghost use Rattle.ato_build.specs.FirstPoints.{AreKnown};
+
+use crate::first_nets::list_of;
+use crate::first_parts::part_of;
+use crate::netlists::net_text;
+use crate::outputs::Output;
+use crate::problems::problem_of;
+use crate::texts::summary_text;
+use crate::{Build, Status};
+use ato_base::{List, NetList, NoMemory, Text};
+use ato_catalog::{Catalog, CatalogRow};
+use ato_cert::{Cert, Proof, cert_text, nodes, search};
+use ato_lexer::Block;
+use std::alloc::Global;
+
+/// What a build decides: how it ends where all goes well, the files that it puts, and its summary.
+#[derive(Debug, Drop)]
+pub(crate) struct Decision {
+    pub status: Status,
+    pub outputs: Vec<Output>,
+    pub summary: String,
+}
+
+/// The row of a catalogue with this number, counted from 1.
+fn row_at(catalog: &Catalog, number: u32) -> Option<&CatalogRow>
+    ensures { option_copied result ≡ numbered catalog.now.rows number }
+{
+    let before = number.checked_sub(1)?;
+    catalog.rows.as_slice().get(before as usize)
+}
+
+/// The name of the part that a pick takes, or the block's where it takes none.
+fn comp_value<'a>(block: &'a Block, catalog: &'a Catalog, pick: &[u32]) -> &'a str
+    ensures { (contents : Contents) → ShowsContents catalog.now contents → result.now ≡ comp_value block.now contents pick.now }
+{
+    match pick {
+        [] => block.name.as_str(),
+        [number, ..] => match row_at(catalog, *number) {
+            None => block.name.as_str(),
+            Some(row) => row.part.as_str(),
+        },
+    }
+}
+
+/// How many slots a block has.
+fn slot_count(block: &Block) -> usize
+    requires { list_all is_line block.now.lines ≡ true }
+    ensures { result ≡ slot_count (part_of block.now.lines) }
+{
+    match part_of(block.lines.as_slice()) {
+        None => 0,
+        Some(_) => 1,
+    }
+}
+
+/// The netlist's file.
+fn net_output(alloc: Global, build: &Build, list: &NetList) -> Result<Output, NoMemory>
+    ensures { IfOk result (λ output. output ≡ net_output build.now list.now) }
+{
+    let out = build.out.as_str();
+    let name = Text::from_string(format!(in alloc; "{out}.net")?);
+    let bytes = net_text(alloc, list)?;
+    Ok(Output { name, bytes })
+}
+
+/// The certificate's file.
+fn cert_output(alloc: Global, build: &Build, cert: &Cert) -> Result<Output, NoMemory>
+    ensures { IfOk result (λ output. output ≡ cert_output build.now cert.now) }
+{
+    let out = build.out.as_str();
+    let name = Text::from_string(format!(in alloc; "{out}.cert")?);
+    let bytes = cert_text(alloc, cert)?;
+    Ok(Output { name, bytes })
+}
+
+/// What is put for a good pick: the netlist with it, and its certificate.
+fn built_outputs(
+    alloc: Global,
+    build: &Build,
+    list: &NetList,
+    cert: &Cert,
+) -> Result<Vec<Output>, NoMemory>
+    ensures { IfOk result (λ outputs. outputs.items ≡ net_output build.now list.now ∷ cert_output build.now cert.now ∷ []) }
+{
+    let mut outputs = Vec::new(alloc);
+    outputs.push(net_output(alloc, build, list)?)?;
+    outputs.push(cert_output(alloc, build, cert)?)?;
+    Ok(outputs)
+}
+
+/// What is put where no pick is good: the certificate.
+fn refuted_outputs(alloc: Global, build: &Build, cert: &Cert) -> Result<Vec<Output>, NoMemory>
+    ensures { IfOk result (λ outputs. outputs.items ≡ cert_output build.now cert.now ∷ []) }
+{
+    let mut outputs = Vec::new(alloc);
+    outputs.push(cert_output(alloc, build, cert)?)?;
+    Ok(outputs)
+}
+
+/// The decision for a good pick.
+fn build_pick(
+    alloc: Global,
+    build: &Build,
+    block: &Block,
+    catalog: &Catalog,
+    pick: &[u32],
+    cert: &Cert,
+) -> Result<Decision, NoMemory>
+    requires form { list_all is_line block.now.lines ≡ true }
+    requires known { AreKnown block.now }
+    requires few { counting.nodes cert.now.proof < 2 ^ 32 }
+    ensures status { IfOk result (λ decision. decision.status ≡ Status.Built) }
+    ensures made { IfOk result (λ decision. (contents : Contents) → ShowsContents catalog.now contents → PutsBuilt build.now block.now contents pick.now cert.now decision) }
+{
+    let slots = slot_count(block);
+    let list = list_of(alloc, block, comp_value(block, catalog, pick), slots)?;
+    let summary = summary_text(alloc, "built", &list, slots, nodes(cert))?;
+    Ok(Decision {
+        status: Status::Built,
+        outputs: built_outputs(alloc, build, &list, cert)?,
+        summary,
+    })
+}
+
+/// The decision where no pick is good.
+fn refute_picks(
+    alloc: Global,
+    build: &Build,
+    block: &Block,
+    cert: &Cert,
+) -> Result<Decision, NoMemory>
+    requires form { list_all is_line block.now.lines ≡ true }
+    requires known { AreKnown block.now }
+    requires few { counting.nodes cert.now.proof < 2 ^ 32 }
+    ensures status { IfOk result (λ decision. decision.status ≡ Status.Refuted) }
+    ensures made { IfOk result (λ decision. (contents : Contents) → PutsRefuted build.now block.now contents cert.now decision) }
+{
+    let slots = slot_count(block);
+    let list = list_of(alloc, block, block.name.as_str(), slots)?;
+    let summary = summary_text(alloc, "refuted", &list, slots, nodes(cert))?;
+    Ok(Decision {
+        status: Status::Refuted,
+        outputs: refuted_outputs(alloc, build, cert)?,
+        summary,
+    })
+}
+
+/// Decides a block with a catalogue: the first good pick, or that there is none.
+pub(crate) fn decide(
+    alloc: Global,
+    build: &Build,
+    block: &Block,
+    catalog: &Catalog,
+) -> Result<Decision, NoMemory>
+    requires form { list_all is_line block.now.lines ≡ true }
+    requires known { AreKnown block.now }
+    requires ranges { HasRanges block.now }
+    requires steps { build.now.steps ≡ 20000 }
+    requires made { IsWellMade catalog.now }
+    ensures end { IfOk result (λ decision. IsEnd decision.status) }
+    ensures decision { IfOk result (λ decision. (contents : Contents) → ShowsContents catalog.now contents
+        → IsDecision build.now block.now contents decision.status decision.outputs.items (string_bytes decision.summary)) }
+{
+    let problem = problem_of(alloc, part_of(block.lines.as_slice()), catalog)?;
+    let cert = search(alloc, &problem, build.steps)?;
+    match &cert.proof {
+        Proof::Built { pick, .. } => {
+            build_pick(alloc, build, block, catalog, pick.as_slice(), &cert)
+        }
+        Proof::Tree { .. } => refute_picks(alloc, build, block, &cert),
+    }
+}
