@@ -1,0 +1,14 @@
+pub mod LiteralAnswers
+pub mod LiteralLaws
+pub mod NextTokens
+pub mod FirstTokens
+pub mod Fronts
+pub mod Parts
+pub mod Words
+pub mod Cutting
+pub mod Exponents
+pub mod OneQuantity
+pub mod OneReading
+pub mod Scales
+pub mod UnitTexts
+pub mod Values

@@ -1,0 +1,11 @@
+pub mod Dimensions
+pub mod Exponents
+pub mod Fractions
+pub mod LiteralReading
+pub mod Literals
+pub mod Parts
+pub mod Quantities
+pub mod Spellings
+pub mod Tables
+pub mod UnitReading
+pub mod Units
