@@ -15,7 +15,7 @@ use Rattle.ato_catalog.specs.Rows.{PlainRow}
 use Rattle.ato_catalog.specs.declared.rows.CatalogRow.{CatalogRow}
 use Rattle.ato_catalog.specs.declared.reading.Catalog.{Catalog}
 use Rattle.ato_cert.specs.Good as problems
-use Rattle.ato_cert.specs.Laws as certs
+use Rattle.ato_search.specs.Decides as searches
 use Rattle.ato_cert.specs.Nodes.{nodes}
 use Rattle.ato_cert.specs.Valid.{IsValid}
 use Rattle.ato_cert.specs.declared.cert.BoxTree.{BoxTree}
@@ -190,13 +190,13 @@ picked_value block catalog pick number row some is found contents shows =
 
 -- a pick that the certificate has built
 pub built_decided : (build : Build) (block : Block) (catalog : Catalog) (problem : Problem) (cert : Cert) (pick numbers : List ℕ) (boxes : List BoxTree) (result : Result Decision NoMemory)
-    → ((contents : Contents) → ShowsContents catalog contents → IsProblem (part_of block.lines) contents problem) → IsValid problem cert → cert.steps ≡ build.steps → certs.Decides problem cert.proof
+    → ((contents : Contents) → ShowsContents catalog contents → IsProblem (part_of block.lines) contents problem) → IsValid problem cert → cert.steps ≡ build.steps → searches.Decides problem cert.proof
     → cert.proof ≡ proofs.Built pick boxes → numbers ≡ pick → IfOk result (λ d. d.status ≡ answers.Built) → IfOk result (λ d. (contents : Contents) → ShowsContents catalog contents → PutsBuilt build block contents numbers cert d)
     → IfOk result (λ d. (contents : Contents) → ShowsContents catalog contents → IsDecision build block contents d.status d.outputs.items (string_bytes d.summary))
 built_decided build block catalog problem cert pick numbers boxes (Err e) is valid steps decides built same status puts = tt
 built_decided build block catalog problem cert pick numbers boxes (Ok d) is valid steps decides built same status puts = λ contents shows.
     let put : PutsBuilt build block contents pick cert d = subst (λ p. PutsBuilt build block contents p cert d) same (puts contents shows) in
-    let first : problems.IsFirstGood problem pick = subst (certs.Decides problem) built decides in
+    let first : problems.IsFirstGood problem pick = subst (searches.Decides problem) built decides in
     subst (λ s. IsDecision build block contents s d.outputs.items (string_bytes d.summary)) (sym status) (
       pick,
       record {
@@ -215,13 +215,13 @@ built_decided build block catalog problem cert pick numbers boxes (Ok d) is vali
 
 -- picks that the certificate has refuted
 pub refuted_decided : (build : Build) (block : Block) (catalog : Catalog) (problem : Problem) (cert : Cert) (verdict : Verdict) (tree : PickTree) (result : Result Decision NoMemory)
-    → ((contents : Contents) → ShowsContents catalog contents → IsProblem (part_of block.lines) contents problem) → IsValid problem cert → cert.steps ≡ build.steps → certs.Decides problem cert.proof
+    → ((contents : Contents) → ShowsContents catalog contents → IsProblem (part_of block.lines) contents problem) → IsValid problem cert → cert.steps ≡ build.steps → searches.Decides problem cert.proof
     → cert.proof ≡ proofs.Tree verdict tree → IfOk result (λ d. d.status ≡ answers.Refuted) → IfOk result (λ d. (contents : Contents) → PutsRefuted build block contents cert d)
     → IfOk result (λ d. (contents : Contents) → ShowsContents catalog contents → IsDecision build block contents d.status d.outputs.items (string_bytes d.summary))
 refuted_decided build block catalog problem cert verdict tree (Err e) is valid steps decides refuted status puts = tt
 refuted_decided build block catalog problem cert verdicts.Refuted tree (Ok d) is valid steps decides refuted status puts = λ contents shows.
     let put : PutsRefuted build block contents cert d = puts contents in
-    let none : problems.NoGood problem = subst (certs.Decides problem) refuted decides in
+    let none : problems.NoGood problem = subst (searches.Decides problem) refuted decides in
     subst (λ s. IsDecision build block contents s d.outputs.items (string_bytes d.summary)) (sym status) (record {
       none_good = no_good_pick (part_of block.lines) contents problem (is contents shows) none;
       list = put.list;

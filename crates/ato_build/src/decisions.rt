@@ -22,7 +22,8 @@ use crate::texts::summary_text;
 use crate::{Build, Status};
 use ato_base::{List, NetList, NoMemory, Text};
 use ato_catalog::{Catalog, CatalogRow};
-use ato_cert::{Cert, Proof, cert_text, nodes, search};
+use ato_cert::{Cert, Proof, cert_text, nodes};
+use ato_search::search;
 use ato_lexer::Block;
 use std::alloc::Global;
 

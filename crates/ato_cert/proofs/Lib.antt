@@ -1,11 +1,10 @@
 pub mod CertReading
+pub mod HalvesLaws
 pub mod LineLemmas
 pub mod NumberLemmas
 pub mod PieceLemmas
 pub mod RowLemmas
+pub mod Soundness
 pub mod TreeLemmas
 pub mod TreeReading
 pub mod WholeReading
-pub mod FailingLemmas
-pub mod Soundness
-pub mod SearchLemmas

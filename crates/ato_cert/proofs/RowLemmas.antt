@@ -8,7 +8,7 @@ use Rattle.std.proofs.Math.Seq.{get_or-append_seam, drop-cons, take-suc}
 use Rattle.ato_cert.specs.declared.problem.Row.{Row}
 use Rattle.ato_cert.specs.Problems.{AreRising}
 use Rattle.ato_cert.specs.Justified.{low_side, high_side, IsMiddle}
-use Rattle.ato_cert.specs.Searching.{AreHalves}
+use Rattle.ato_cert.specs.Halves.{AreHalves}
 
 -- each number is below those after it
 abbrev pub Rises : List Row → Type 0

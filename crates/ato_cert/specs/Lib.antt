@@ -1,4 +1,5 @@
 pub mod Good
+pub mod Halves
 pub mod Justified
 pub mod Laws
 pub mod Nodes
@@ -6,7 +7,6 @@ pub mod Problems
 pub mod Readable
 pub mod Reading
 pub mod Refusals
-pub mod Searching
 pub mod Selection
 pub mod Texts
 pub mod Valid

@@ -1,8 +1,11 @@
 //! Certificates as trees.
+ghost use Rattle.std.specs.Prelude.{◌≡◌, IfOk};
+ghost use Rattle.ato_cert.specs.declared.cert.PickTree.TheVariants as variants;
 
-use ato_base::List;
+use ato_base::{List, NoMemory};
 use ato_frac::Frac;
 use sqlite_items::Boxed;
+use std::alloc::Global;
 
 /// What a tree over the picks shows.
 #[derive(Clone, Copy, Debug, PartialEq, Eq)]
@@ -57,4 +60,24 @@ pub enum Proof {
 pub struct Cert {
     pub steps: u32,
     pub proof: Proof,
+}
+
+impl PickTree {
+    /// A tree over the two sides of a slot's row number.
+    pub fn divided(
+        alloc: Global,
+        slot: u32,
+        row: u32,
+        low: PickTree,
+        high: PickTree,
+    ) -> Result<PickTree, NoMemory>
+        ensures { IfOk result (λ tree. tree ≡ variants.ByRow slot row low high) }
+    {
+        Ok(PickTree::ByRow {
+            slot,
+            row,
+            low: Boxed::new(alloc, low)?,
+            high: Boxed::new(alloc, high)?,
+        })
+    }
 }

@@ -7,7 +7,7 @@ use ato_frac::Frac;
 use std::cmp::Ordering;
 
 /// Whether a fraction is at most another.
-pub(crate) fn is_at_most(a: &Frac, b: &Frac) -> bool
+pub fn is_at_most(a: &Frac, b: &Frac) -> bool
     ensures { IsTrue result ↔ (value_of a.now ≤ℚ value_of b.now) }
 {
     a.compare(b) != Ordering::Greater

@@ -7,7 +7,6 @@ ghost use Rattle.ato_cert.specs.Reading.{Reads, ReadsNothing, Because};
 use crate::PickTree;
 use crate::line::{Line, ReadFault};
 use crate::lines::read_line;
-use crate::refuting::divided;
 use std::alloc::Global;
 
 /// The tree that stands first, over so many slots and checks, with so many nodes that may stand above
@@ -29,7 +28,7 @@ pub(crate) fn read_tree(
         Line::Row(slot, row) => {
             let (low, rest) = read_tree(alloc, count, above - 1, rest)?;
             let (high, rest) = read_tree(alloc, count, above - 1, rest)?;
-            let tree = divided(alloc, slot, row, low, high)?;
+            let tree = PickTree::divided(alloc, slot, row, low, high)?;
             Ok((tree, rest))
         }
     }

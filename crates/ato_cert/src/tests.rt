@@ -1,5 +1,6 @@
 use crate::{
-    Cert, CertRefusal, Problem, Row, Slot, cert_text, nodes, read_cert, search, valid_is_sound,
+    CertRefusal, Problem, Row, Slot, cert_text, halves, is_at_most, nodes, read_cert,
+    valid_is_sound,
 };
 use ato_base::{List, NoMemory};
 use ato_frac::{Exact, Frac};
@@ -37,151 +38,9 @@ fn problem_of(
     })
 }
 
-/// What the search gives, or none where its conditions are not met.
-fn found(alloc: Global, problem: &Problem) -> Result<Option<Cert>, NoMemory> {
-    if !problem.is_well_made() {
-        return Ok(None);
-    }
-    if let Some(slot) = &problem.slot {
-        if slot.rows.len() > 1000 {
-            return Ok(None);
-        }
-    }
-    Ok(Some(search(alloc, problem, 20000)?))
-}
-
-/// The text of what the search gives, with the number of its nodes, or none where its conditions are
-/// not met.
-fn found_text(alloc: Global, problem: &Problem) -> Result<Option<(List<u8>, u32)>, NoMemory> {
-    match found(alloc, problem)? {
-        Some(cert) => Ok(Some((cert_text(alloc, &cert)?, nodes(&cert)))),
-        None => Ok(None),
-    }
-}
-
 /// The text of a certificate after its second word, for 20,000 steps.
 fn text_with(alloc: Global, word: &str, proof: &str) -> Result<String, NoMemory> {
     Ok(format!(in alloc; "ato-certificate 1\nverdict {word}\nsteps 20000\n{proof}")?)
-}
-
-const MOST: i128 = 999_999_999_999_999_999;
-
-#[test]
-fn certificates_to_the_byte(rt: HostRuntime) -> Result<(), Fail> {
-    let alloc = rt.alloc();
-    valid_is_sound();
-    let none: [(u32, i128, i128); 0] = [];
-    let two = [(1, 1, 3), (2, 2, 2)];
-    let three = [(3, 0, 9), (7, 2, 3), (8, 2, 3)];
-    let odd = [(1, 0, 1), (2, 9, 9), (4, -7, 7)];
-    let large = [(1, 0, MOST), (4_294_967_295, MOST, MOST)];
-    for (candidates, target, word, proof) in [
-        (
-            two.as_slice(),
-            (2, 4),
-            "built",
-            "pick 2\ncheck 1\nholds\nend\n",
-        ),
-        (
-            two.as_slice(),
-            (4, 5),
-            "refuted",
-            "row 1 1\nfails 1 0/1\nfails 1 0/1\n",
-        ),
-        (none.as_slice(), (2, 4), "refuted", "empty 1\n"),
-        (
-            three.as_slice(),
-            (0, 9),
-            "built",
-            "pick 3\ncheck 1\nholds\nend\n",
-        ),
-        (
-            three.as_slice(),
-            (2, 3),
-            "built",
-            "pick 7\ncheck 1\nholds\nend\n",
-        ),
-        (
-            odd.as_slice(),
-            (2, 8),
-            "refuted",
-            "row 1 2\nrow 1 1\nfails 1 0/1\nfails 1 1/1\nfails 1 0/1\n",
-        ),
-        (
-            odd.as_slice(),
-            (-7, 7),
-            "built",
-            "pick 1\ncheck 1\nholds\nend\n",
-        ),
-        (
-            odd.as_slice(),
-            (-7, -7),
-            "refuted",
-            "row 1 2\nrow 1 1\nfails 1 1/1\nfails 1 1/1\nfails 1 1/1\n",
-        ),
-        (
-            large.as_slice(),
-            (MOST, MOST),
-            "built",
-            "pick 4294967295\ncheck 1\nholds\nend\n",
-        ),
-        (
-            large.as_slice(),
-            (0, MOST - 1),
-            "refuted",
-            "row 1 1\nfails 1 1/1\nfails 1 1/1\n",
-        ),
-    ] {
-        let problem = problem_of(alloc, candidates, target)?;
-        let want = text_with(alloc, word, proof)?;
-        match found_text(alloc, &problem)? {
-            Some((text, _)) => assert_eq!(rt; text.as_slice(), want.as_bytes(), "{proof}"),
-            None => assert!(rt; false),
-        }
-    }
-    Ok(())
-}
-
-#[test]
-fn without_a_slot_the_empty_pick_is_built(rt: HostRuntime) -> Result<(), Fail> {
-    let alloc = rt.alloc();
-    let want = text_with(alloc, "built", "pick\nend\n")?;
-    match found_text(alloc, &Problem { slot: None })? {
-        Some((text, count)) => {
-            assert_eq!(rt; text.as_slice(), want.as_bytes());
-            assert_eq!(rt; count, 0);
-        }
-        None => assert!(rt; false),
-    }
-    Ok(())
-}
-
-/// The nodes of the certificate for rows from 1 on, the values of each its number, and a target.
-fn count_of_many(alloc: Global, rows: u32, target: (i128, i128)) -> Result<Option<u32>, NoMemory> {
-    let mut candidates = List::new(alloc);
-    for number in 0..rows {
-        let value = i128::from(number);
-        candidates.push((number, value, value))?;
-    }
-    let problem = problem_of(alloc, candidates.as_slice(), target)?;
-    match found(alloc, &problem)? {
-        Some(cert) => Ok(Some(nodes(&cert))),
-        None => Ok(None),
-    }
-}
-
-#[test]
-fn nodes_of_many_rows(rt: HostRuntime) -> Result<(), Fail> {
-    for (rows, target, count) in [
-        (1, (0, 0), Some(1)),
-        (1000, (999, 999), Some(1)),
-        (1000, (2000, 3000), Some(1999)),
-        (1000, (3, 2), None),
-        (1001, (0, 0), None),
-    ] {
-        assert_eq!(rt; count_of_many(rt.alloc(), rows, target)?, count);
-    }
-    Ok(())
 }
 
 #[test]
@@ -325,5 +184,59 @@ fn trees_of_many_rows(rt: HostRuntime) -> Result<(), Fail> {
     for (rows, line) in [(10_000, 0), (10_001, 10_004)] {
         assert_eq!(rt; bad_line_of_rows(alloc, rows, &problem)?, line, "{rows}");
     }
+    Ok(())
+}
+
+/// The nodes of the certificate that a text is, or 9999 where it is none.
+fn nodes_of_text(alloc: Global, text: &[u8], problem: &Problem) -> Result<u32, NoMemory> {
+    if text.len() > 1_000_000 {
+        return Err(NoMemory);
+    }
+    match read_cert(alloc, text, problem) {
+        Ok(cert) => Ok(nodes(&cert)),
+        Err(CertRefusal::Bad(_)) => Ok(9999),
+        Err(CertRefusal::NoMemory) => Err(NoMemory),
+    }
+}
+
+#[test]
+fn nodes_are_lines_of_trees_and_of_boxes(rt: HostRuntime) -> Result<(), Fail> {
+    let alloc = rt.alloc();
+    valid_is_sound();
+    let problem = problem_of(alloc, [(1, 1, 3), (2, 2, 2)].as_slice(), (2, 4))?;
+    for (word, proof, count) in [
+        ("built", "pick 2\ncheck 1\nholds\nend\n", 1),
+        ("built", "pick 2\nend\n", 0),
+        ("refuted", "empty 1\n", 1),
+        ("refuted", "row 1 1\nfails 1 0/1\nfails 1 0/1\n", 3),
+    ] {
+        let text = text_with(alloc, word, proof)?;
+        assert_eq!(rt;
+            nodes_of_text(alloc, text.as_bytes(), &problem)?,
+            count,
+            "{proof}"
+        );
+    }
+    Ok(())
+}
+
+#[test]
+fn rows_against_targets_and_their_middle(rt: HostRuntime) -> Result<(), Fail> {
+    let problem = problem_of(
+        rt.alloc(),
+        [(1, 1, 3), (2, 2, 2), (5, 2, 4)].as_slice(),
+        (2, 4),
+    )?;
+    if let Some(slot) = &problem.slot {
+        for (row, inside) in slot.rows.as_slice().iter().zip([false, true, true]) {
+            assert_eq!(rt; slot.has_in_target(row), inside);
+        }
+        if problem.is_well_made() && slot.rows.len() == 3 {
+            let (low, number, high) = halves(slot.rows.as_slice());
+            assert_eq!(rt; (low.len(), number, high.len()), (2, 2, 1));
+        }
+    }
+    assert!(rt; is_at_most(&whole(2), &whole(2)));
+    assert!(rt; !is_at_most(&whole(3), &whole(2)));
     Ok(())
 }

@@ -1,17 +1,15 @@
 //! The tree that shows that no candidate is good.
-ghost use Rattle.std.specs.Prelude.{◌≡◌, ◌<◌, ◌≤◌, [], ◌∷◌, length, IfOk};
+ghost use Rattle.std.specs.Prelude.{◌≡◌, [], ◌∷◌, IfOk};
 ghost use Rattle.std.specs.List.{All};
 ghost use Rattle.ato_cert.specs.Problems.{AreRising};
 ghost use Rattle.ato_cert.specs.Selection.{FailsAt};
 ghost use Rattle.ato_cert.specs.Justified.{LiesInTarget};
-ghost use Rattle.ato_cert.specs.Searching.{AreHalves, IsRefutation};
+ghost use Rattle.ato_search.specs.Searching.{IsRefutation};
 ghost use Rattle.ato_cert.specs.declared.cert.PickTree.TheVariants as variants;
 
-use crate::comparing::is_at_most;
-use crate::{PickTree, Row, Slot};
 use ato_base::{List, NoMemory};
+use ato_cert::{PickTree, Row, Slot, halves, is_at_most};
 use ato_frac::{Exact, Frac};
-use sqlite_items::Boxed;
 use std::alloc::Global;
 
 /// The fraction that selects an end of a range outside the target: 0 the low end, 1 the high one.
@@ -35,35 +33,6 @@ fn failing(alloc: Global, t: Frac) -> Result<PickTree, NoMemory>
     Ok(PickTree::Fails { check: 1, point })
 }
 
-/// A tree over the two sides of a slot's row number.
-pub(crate) fn divided(
-    alloc: Global,
-    slot: u32,
-    row: u32,
-    low: PickTree,
-    high: PickTree,
-) -> Result<PickTree, NoMemory>
-    ensures { IfOk result (λ tree. tree ≡ variants.ByRow slot row low high) }
-{
-    Ok(PickTree::ByRow {
-        slot,
-        row,
-        low: Boxed::new(alloc, low)?,
-        high: Boxed::new(alloc, high)?,
-    })
-}
-
-/// Divides rows at the middle, the low side with one more where they are odd.
-fn halves(rows: &[Row]) -> (&[Row], u32, &[Row])
-    requires several { 2 ≤ length rows.now }
-    requires rising { AreRising rows.now }
-    ensures { AreHalves rows.now result.0.now result.1 result.2.now }
-{
-    let middle = (rows.len() - 1) / 2;
-    let (low, high) = rows.split_at(middle + 1);
-    (low, rows[middle].number, high)
-}
-
 /// The tree of one row, which lies outside the target.
 fn refute_row(alloc: Global, slot: &Slot, row: &Row) -> Result<PickTree, NoMemory>
     requires { ¬ LiesInTarget slot.now row.now }
@@ -85,7 +54,7 @@ pub(crate) fn refute(alloc: Global, slot: &Slot, rows: &[Row]) -> Result<PickTre
             let (low, number, high) = halves(rows);
             let low = refute(alloc, slot, low)?;
             let high = refute(alloc, slot, high)?;
-            divided(alloc, 1, number, low, high)
+            PickTree::divided(alloc, 1, number, low, high)
         }
     }
 }

@@ -17,8 +17,9 @@ use Rattle.ato_cert.specs.Problems.{AreRising, IsWellMadeSlot}
 use Rattle.ato_cert.specs.Good.{IsGoodRow}
 use Rattle.ato_cert.specs.Selection.{FailsAt}
 use Rattle.ato_cert.specs.Justified.{empty, by_row, fails, LiesInTarget}
-use Rattle.ato_cert.specs.Searching.{IsFirstInTarget, IsDecision, IsRefutation, AreHalves}
-use Rattle.ato_cert.proofs.RowLemmas.{Contains-seam, divided_at, rising_low, rising_high}
+use Rattle.ato_cert.specs.Halves.{AreHalves}
+use Rattle.ato_search.specs.Searching.{IsFirstInTarget, IsDecision, IsRefutation}
+use Rattle.ato_cert.proofs.RowLemmas.{Contains-seam, divided_at}
 use Rattle.ato_cert.proofs.Soundness.{IsBad, refuted_bad, no_good_row, inside_good, good_inside}
 use Rattle.ato_cert.proofs.TreeLemmas.{nodes_empty, nodes_by_row, nodes_fails}
 
@@ -72,35 +73,6 @@ halves_refuted slot rows low number high a b h l r = record {
   refutes = by_row number h.middle (rw h.low_is l.refutes) (rw h.high_is r.refutes);
   few = rw (nodes_by_row 1 number a b) (omega (arith, l.few, r.few, ap (λ (x : List Row). length x) h.together ∙ length-append low high, h.low_some, h.high_some));
 }
-
--- what holds of rows holds of their halves
-
-pub low_rising : {rows low high : List Row} {number : ℕ} → AreHalves rows low number high → AreRising rows → AreRising low
-low_rising {rows} {low} {high} h r = rising_low low high (subst AreRising h.together r)
-
-pub high_rising : {rows low high : List Row} {number : ℕ} → AreHalves rows low number high → AreRising rows → AreRising high
-high_rising {rows} {low} {high} h r = rising_high low high (subst AreRising h.together r)
-
-all_parts : (P : Row → Type 0) (low high : List Row) → AllByRecursion P (low ++ high) → AllByRecursion P low × AllByRecursion P high
-all_parts P [] high a = (tt, a)
-all_parts P (row ∷ low) high a = let rest = all_parts P low high a.1 in ((a.0, rest.0), rest.1)
-
-parts_of : (P : Row → Type 0) (rows low high : List Row) → rows ≡ low ++ high → All P rows → AllByRecursion P low × AllByRecursion P high
-parts_of P rows low high e a = all_parts P low high (recursion_from_All P (low ++ high) (subst (λ (l : List Row). All P l) e a))
-
-pub low_all : (P : Row → Type 0) {rows low high : List Row} {number : ℕ} → AreHalves rows low number high → All P rows → All P low
-low_all P {rows} {low} {high} h a = All-from_recursion P low (parts_of P rows low high h.together a).0
-
-pub high_all : (P : Row → Type 0) {rows low high : List Row} {number : ℕ} → AreHalves rows low number high → All P rows → All P high
-high_all P {rows} {low} {high} h a = All-from_recursion P high (parts_of P rows low high h.together a).1
-
--- both halves have fewer rows
-
-pub low_fewer : {rows low high : List Row} {number : ℕ} → AreHalves rows low number high → length low < length rows
-low_fewer {rows} {low} {high} h = omega (arith, ap (λ (x : List Row). length x) h.together ∙ length-append low high, h.high_some)
-
-pub high_fewer : {rows low high : List Row} {number : ℕ} → AreHalves rows low number high → length high < length rows
-high_fewer {rows} {low} {high} h = omega (arith, ap (λ (x : List Row). length x) h.together ∙ length-append low high, h.low_some)
 
 -- the row at i, where those before it lie outside the target
 pub first_at : (slot : Slot) (rows : List Row) (i : ℕ) (row : Row) → rows ≡ slot.rows → i < length rows → row ≡ get_or rows i row

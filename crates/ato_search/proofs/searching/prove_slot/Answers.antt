@@ -1,9 +1,9 @@
 use Rattle.std.proofs.Common.{subst, sym}
 use Rattle.std.proofs.lemmas.Result.{IfOk-weaker}
 use Rattle.ato_cert.specs.Problems.{AreRising}
-use Rattle.ato_cert.specs.Searching.{IsRefutation}
-use Rattle.ato_cert.proofs.SearchLemmas.{first_decides, tree_decides}
-use Rattle.ato_cert.proofs.searching.prove_slot.Goals as goal
+use Rattle.ato_search.specs.Searching.{IsRefutation}
+use Rattle.ato_search.proofs.SearchLemmas.{first_decides, tree_decides}
+use Rattle.ato_search.proofs.searching.prove_slot.Goals as goal
 
 pub refute-requires-clause-rising : goal.refute-requires-clause-rising
 refute-requires-clause-rising c = subst AreRising (sym c.as_slice.ensures) c.requires.rising

@@ -1,6 +1,6 @@
 use Rattle.std.proofs.Common.{arith, ◌-◌, ◌/◌, length}
 use Rattle.ato_cert.proofs.RowLemmas.{halves_at}
-use Rattle.ato_cert.proofs.refuting.halves.Goals as goal
+use Rattle.ato_cert.proofs.halving.halves.Goals as goal
 
 pub returns : goal.returns
 returns c =

@@ -5,19 +5,10 @@ use Rattle.ato_cert.specs.declared.problem.Row.{Row}
 use Rattle.ato_cert.specs.declared.problem.Slot.{Slot}
 use Rattle.ato_cert.specs.declared.cert.PickTree.{PickTree}
 use Rattle.ato_cert.specs.declared.cert.Proof.{Proof}
-use Rattle.ato_cert.specs.Justified.{IsMiddle, low_side, high_side, Refutes, LiesInTarget}
-use Rattle.ato_cert.specs.Laws.{Decides}
+use Rattle.ato_cert.specs.Justified.{Refutes, LiesInTarget}
 use Rattle.ato_cert.specs.Nodes.{nodes, tree_nodes}
 use Rattle.ato_cert.specs.Valid.{IsProofOf}
-
--- the two sides of rows that a number in the middle divides, one after the other
-pub record AreHalves (rows low : List Row) (number : ℕ) (high : List Row) : Type 0 where
-  pub together : rows ≡ low ++ high
-  pub middle : IsMiddle rows number
-  pub low_is : low_side number rows ≡ low
-  pub high_is : high_side number rows ≡ high
-  pub low_some : 0 < length low
-  pub high_some : 0 < length high
+use Rattle.ato_search.specs.Decides.{Decides}
 
 -- a tree that refutes rows, with at most one line for each row and one for each place between two
 pub record IsRefutation (slot : Slot) (rows : List Row) (tree : PickTree) : Type 0 where

@@ -1,5 +1,5 @@
 use Rattle.std.proofs.Common.{length}
-use Rattle.ato_cert.proofs.refuting.+refute.Given as goal
+use Rattle.ato_search.proofs.refuting.+refute.Given as goal
 
 abbrev pub decreases-refute : goal.decreases-refute
 decreases-refute l = length l.rows.now

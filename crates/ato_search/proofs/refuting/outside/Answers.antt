@@ -1,7 +1,7 @@
 use Rattle.std.proofs.Common.{refl}
 use Rattle.std.proofs.lemmas.Bool.{false≢true}
-use Rattle.ato_cert.proofs.FailingLemmas.{low_end_fails, high_end_fails, high_end_outside, less_since}
-use Rattle.ato_cert.proofs.refuting.outside.Goals as goal
+use Rattle.ato_search.proofs.FailingLemmas.{low_end_fails, high_end_fails, high_end_outside, less_since}
+use Rattle.ato_search.proofs.refuting.outside.Goals as goal
 
 pub returns-then-is_at_most : goal.returns-then-is_at_most
 returns-then-is_at_most c =

@@ -1,26 +1,18 @@
 //! The search for the first good candidate.
-ghost use Rattle.std.specs.Prelude.{◌≡◌, ◌≤◌, ◌↔◌, [], ◌∷◌, IsTrue, IfOk, MatchOption};
+ghost use Rattle.std.specs.Prelude.{◌≡◌, ◌≤◌, [], ◌∷◌, IfOk, MatchOption};
 ghost use Rattle.std.specs.List.{All};
 ghost use Rattle.ato_cert.specs.Problems.{IsWellMade, IsWellMadeSlot, HasAtMost};
 ghost use Rattle.ato_cert.specs.Justified.{LiesInTarget};
-ghost use Rattle.ato_cert.specs.Searching.{IsFirstInTarget, IsDecision};
+ghost use Rattle.ato_search.specs.Searching.{IsFirstInTarget, IsDecision};
 ghost use Rattle.ato_cert.specs.Valid.{IsValid};
-ghost use Rattle.ato_cert.specs.Laws.{Decides};
+ghost use Rattle.ato_search.specs.Decides.{Decides};
 ghost use Rattle.ato_cert.specs.declared.cert.BoxTree.TheVariants.{Holds};
 ghost use Rattle.ato_cert.specs.declared.cert.Proof.TheVariants.{Built};
 
-use crate::comparing::is_at_most;
 use crate::refuting::refute;
-use crate::{BoxTree, Cert, Problem, Proof, Row, Slot, Verdict};
 use ato_base::{List, NoMemory};
+use ato_cert::{BoxTree, Cert, Problem, Proof, Slot, Verdict};
 use std::alloc::Global;
-
-/// Whether the range of a row lies in the target.
-fn lies_in_target(slot: &Slot, row: &Row) -> bool
-    ensures { IsTrue result ↔ LiesInTarget slot.now row.now }
-{
-    is_at_most(&slot.low, &row.low) && is_at_most(&row.high, &slot.high)
-}
 
 /// The number of the first row whose range lies in the target.
 fn first_in_target(slot: &Slot) -> Option<u32>
@@ -29,7 +21,7 @@ fn first_in_target(slot: &Slot) -> Option<u32>
         (IsFirstInTarget slot.now) }
 {
     for row in slot.rows.as_slice() {
-        if lies_in_target(slot, row) {
+        if slot.has_in_target(row) {
             return Some(row.number);
         }
     }

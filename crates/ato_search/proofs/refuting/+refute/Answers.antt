@@ -1,8 +1,9 @@
 use Rattle.std.proofs.Common.{rules}
 use Rattle.std.proofs.lemmas.Result.{IfOk-weaker}
 use Rattle.ato_cert.specs.Justified.{LiesInTarget}
-use Rattle.ato_cert.proofs.SearchLemmas.{empty_at, halves_refuted, low_rising, high_rising, low_all, high_all, low_fewer, high_fewer}
-use Rattle.ato_cert.proofs.refuting.+refute.Goals as goal
+use Rattle.ato_cert.proofs.HalvesLaws.{low_rising, high_rising, low_all, high_all, low_fewer, high_fewer}
+use Rattle.ato_search.proofs.SearchLemmas.{empty_at, halves_refuted}
+use Rattle.ato_search.proofs.refuting.+refute.Goals as goal
 
 pub refute-requires : goal.refute-requires
 refute-requires t c =
