@@ -27,11 +27,11 @@ use Rattle.ato_build.specs.Input.{StandsInCatalogue, catalogue_limit}
 use Rattle.ato_build.specs.Outputs.{PutsInOrder}
 use Rattle.ato_build.specs.Printing.{Appends}
 use Rattle.ato_build.specs.Texts.{fault_text, read_fault_text, said_text}
-use Rattle.ato_build.specs.Words.{IsBuild}
+use Rattle.ato_words.specs.Words.{IsBuild}
 use Rattle.ato_build.specs.declared.answer.Answer.{Answer}
 use Rattle.ato_build.specs.declared.outputs.Output.{Output}
 use Rattle.ato_build.specs.declared.outputs.Stop.{Stop}
-use Rattle.ato_build.specs.declared.words.Build.{Build}
+use Rattle.ato_words.specs.declared.words.Build.{Build}
 use Rattle.ato_build.specs.declared.status.Status.{Status}
 use Rattle.ato_build.specs.declared.status.Status.TheVariants as answers
 

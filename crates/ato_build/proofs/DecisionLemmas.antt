@@ -30,11 +30,11 @@ use Rattle.ato_build.specs.Decisions.{IsDecision}
 use Rattle.ato_build.specs.DecisionParts.{PutsBuilt, PutsRefuted}
 use Rattle.ato_build.specs.declared.decisions.Decision.{Decision}
 use Rattle.ato_build.specs.declared.status.Status.TheVariants as answers
-use Rattle.ato_build.specs.declared.words.Build.{Build}
+use Rattle.ato_words.specs.declared.words.Build.{Build}
 use Rattle.ato_cert.specs.declared.problem.Problem.{Problem}
 use Rattle.ato_cert.specs.declared.problem.Row.{Row}
 use Rattle.ato_cert.specs.declared.problem.Slot.{Slot}
-use Rattle.ato_build.specs.FirstParts.{Part, Candidate, candidates, IsBetween, IsGoodCandidate, IsGoodNumber, IsFirstGoodNumber, IsGoodPick, IsFirstGoodPick, NoGoodPick, part_of, picked_part, comp_value}
+use Rattle.ato_first.specs.FirstParts.{Part, Candidate, candidates, IsBetween, IsGoodCandidate, IsGoodNumber, IsFirstGoodNumber, IsGoodPick, IsFirstGoodPick, NoGoodPick, part_of, picked_part, comp_value}
 use Rattle.ato_build.specs.Problems.{IsRowOf, IsSlotOf, IsSlotFor, IsProblem}
 
 -- ---- values between whole numbers and between their fractions

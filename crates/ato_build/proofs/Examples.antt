@@ -13,16 +13,16 @@ use Rattle.ato_lexer.specs.declared.first_form.Line.TheVariants.{Pass, Declarati
 use Rattle.ato_lexer.specs.declared.first_form.Point.TheVariants.{Signal, Pin}
 use Rattle.ato_lexer.specs.FirstTokens.{syntax_fault}
 use Rattle.ato_build.specs.Entry.{word_fault, entry_file}
-use Rattle.ato_build.specs.FirstNets.{net_pin, by_signal, IsNetList}
-use Rattle.ato_build.specs.FirstParts.{part_of, candidates}
+use Rattle.ato_first.specs.FirstNets.{net_pin, by_signal, IsNetList}
+use Rattle.ato_first.specs.FirstParts.{part_of, candidates}
 use Rattle.ato_catalog.specs.Rows.{PlainRow}
-use Rattle.ato_build.specs.FirstPoints.{IsJoinedByLine}
-use Rattle.ato_build.specs.Netlists.{list_text, comp_text, net_text, node_text, field, quoted}
-use Rattle.ato_build.specs.PlainNames.{is_plain, is_put}
+use Rattle.ato_first.specs.FirstPoints.{IsJoinedByLine}
+use Rattle.ato_writers.specs.Netlists.{list_text, comp_text, net_text, node_text, field, quoted}
+use Rattle.ato_words.specs.PlainNames.{is_plain, is_put}
 use Rattle.ato_build.specs.Texts.{column_at, fault_text, place_in_text, word_text}
-use Rattle.ato_build.specs.Words.{IsBuild, line_of, is_read}
-use Rattle.ato_build.specs.declared.words.Build.{Build}
-use Rattle.ato_build.specs.declared.word_line.Turn.TheVariants.{Any, Positional}
+use Rattle.ato_words.specs.Words.{IsBuild, line_of, is_read}
+use Rattle.ato_words.specs.declared.words.Build.{Build}
+use Rattle.ato_words.specs.declared.word_line.Turn.TheVariants.{Any, Positional}
 
 -- ---- a block with no pin
 

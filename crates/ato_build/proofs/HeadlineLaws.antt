@@ -14,18 +14,18 @@ use Rattle.ato_catalog.specs.Contents.{Contents}
 use Rattle.ato_catalog.proofs.CatalogueLaws.{one_contents, one_fault, never_both}
 use Rattle.ato_outside.specs.Files.{Files}
 use Rattle.ato_outside.specs.Causes.{Rose}
-use Rattle.ato_build.proofs.WordLaws.{one_build}
-use Rattle.ato_build.proofs.FirstNumberLemmas.{or_false, or_right}
+use Rattle.ato_words.proofs.WordLaws.{one_build}
+use Rattle.ato_first.proofs.FirstNumberLemmas.{or_false, or_right}
 use Rattle.ato_build.specs.Causes.{EndsOutside}
 use Rattle.ato_build.specs.Entry.{GivesBlock, StandsInEntry, IsLineFault, LacksBlock, IsNamed, line_fault, entry_file}
-use Rattle.ato_build.specs.FirstParts.{part_of, is_empty_range, HasRanges, IsGoodPick, NoGoodPick}
-use Rattle.ato_build.specs.FirstPoints.{AreKnown, IsFirstLineAt, is_unknown_in}
+use Rattle.ato_first.specs.FirstParts.{part_of, is_empty_range, HasRanges, IsGoodPick, NoGoodPick}
+use Rattle.ato_first.specs.FirstPoints.{AreKnown, IsFirstLineAt, is_unknown_in}
 use Rattle.ato_build.specs.Found.{Found, Missing, TooLong, Whole}
 use Rattle.ato_build.specs.Headline.{Decides, Headline}
 use Rattle.ato_build.specs.Input.{Input, HasInput, GivesContents, StandsInCatalogue, Gives, Stands, input_of}
-use Rattle.ato_build.specs.Words.{IsBuild, IsNoJob}
-use Rattle.ato_build.specs.declared.words.Build.{Build}
-use Rattle.ato_build.specs.declared.words.Task.TheVariants as tasks
+use Rattle.ato_words.specs.Words.{IsBuild, IsNoJob}
+use Rattle.ato_words.specs.declared.words.Build.{Build}
+use Rattle.ato_words.specs.declared.words.Task.TheVariants as tasks
 use Rattle.ato_build.specs.declared.outputs.Output.{Output}
 use Rattle.ato_build.specs.declared.status.Status.{Status}
 use Rattle.ato_build.specs.declared.status.Status.TheVariants as answers

@@ -16,7 +16,7 @@ use Rattle.ato_catalog.proofs.CatalogueLaws.{under}
 use Rattle.ato_catalog.proofs.WholeLaws.{at_most_from_whole}
 use Rattle.ato_cert.specs.Problems.{IsWellMadeSlot}
 use Rattle.ato_cert.specs.declared.problem.Row.{Row}
-use Rattle.ato_build.specs.FirstParts.{Part, Candidate, candidate_in, with_candidate, candidates_from, candidates}
+use Rattle.ato_first.specs.FirstParts.{Part, Candidate, candidate_in, with_candidate, candidates_from, candidates}
 use Rattle.ato_build.specs.Problems.{IsRowOf, IsSlotOf}
 use Rattle.std.specs.Str.{bytes_eq}
 use Rattle.std.proofs.lemmas.List.{drop_all, drop-drop}

@@ -9,10 +9,10 @@ use Rattle.ato_catalog.proofs.PlaceLaws.{IsCellFault}
 use Rattle.ato_lexer.specs.declared.first_form.Line.{Line}
 use Rattle.ato_lexer.specs.declared.first_form.Block.{Block}
 use Rattle.ato_build.specs.Entry.{StandsInEntry, IsLineFault}
-use Rattle.ato_build.specs.FirstPoints.{IsFirstLineAt}
+use Rattle.ato_first.specs.FirstPoints.{IsFirstLineAt}
 use Rattle.ato_build.specs.Found.{Whole}
 use Rattle.ato_build.specs.Texts.{LiesWithin}
-use Rattle.ato_build.specs.declared.words.Build.{Build}
+use Rattle.ato_words.specs.declared.words.Build.{Build}
 
 front_within : (front back : List Line) → length (lines_text front) ≤ length (lines_text (front ++ back))
 front_within front back = omega (arith, ap length (flat_map-append (λ l. lined (line_text l)) front back), length-append (lines_text front) (lines_text back))

@@ -1,13 +1,11 @@
--- The candidates of a part among the rows that a catalogue keeps, and the part that a block shows.
-use Rattle.std.specs.Prelude.{ℕ, ◌+◌, ◌≤◌, if◌then◌else◌, List, [], ◌∷◌, Option, Some, None, option_map}
+-- The candidates of a part among the rows that a catalogue keeps.
+use Rattle.std.specs.Prelude.{ℕ, ◌+◌, if◌then◌else◌, List, [], ◌∷◌, Option, Some, None, option_map}
 use Rattle.std.specs.Str.{bytes_eq}
 use Rattle.ato_frac.specs.declared.fraction.Frac.{Frac}
 use Rattle.ato_catalog.specs.Contents.{cell_under}
 use Rattle.ato_catalog.specs.declared.header.Column.{Column}
 use Rattle.ato_catalog.specs.declared.rows.CatalogRow.{CatalogRow}
 use Rattle.ato_cert.specs.declared.problem.Row.{Row}
-use Rattle.ato_build.specs.FirstParts as parts
-use Rattle.ato_build.specs.declared.first_parts.Part.{Part}
 
 -- the first cell, or nothing where there is none
 abbrev pub first_cell : List (Option (Frac × Frac)) → Option (Frac × Frac)
@@ -28,13 +26,3 @@ with_row (Some row) rows = row ∷ rows
 abbrev pub rows_from : List Column → List ℕ → List ℕ → ℕ → List CatalogRow → List Row
 rows_from columns kind attribute number [] = []
 rows_from columns kind attribute number (row ∷ rows) = with_row (row_in columns kind attribute number row) (rows_from columns kind attribute (number + 1) rows)
-
--- the part that is lent
-abbrev pub shown_part : Option Part → Option parts.Part
-shown_part None = None
-shown_part (Some part) = Some (record { kind = part.kind.now; attribute = part.attribute.now; low = part.low; high = part.high })
-
--- What is asserted of the part has a value.
-abbrev pub IsInOrder : Option Part → Type 0
-IsInOrder None = Unit {0}
-IsInOrder (Some part) = part.low ≤ part.high

@@ -6,10 +6,10 @@ use Rattle.ato_catalog.specs.Contents.{Contents}
 use Rattle.ato_cert.specs.Nodes.{nodes}
 use Rattle.ato_cert.specs.declared.cert.Cert.{Cert}
 use Rattle.ato_build.specs.Decisions.{IsListOf, net_output, cert_output}
-use Rattle.ato_build.specs.FirstParts.{part_of, slot_count}
+use Rattle.ato_first.specs.FirstParts.{part_of, slot_count}
 use Rattle.ato_build.specs.Texts.{summary_text}
 use Rattle.ato_build.specs.declared.decisions.Decision.{Decision}
-use Rattle.ato_build.specs.declared.words.Build.{Build}
+use Rattle.ato_words.specs.declared.words.Build.{Build}
 
 -- The netlist with the picked part and the certificate are put.
 pub record PutsBuilt (build : Build) (block : Block) (contents : Contents) (pick : List ℕ) (cert : Cert) (decision : Decision) : Type 0 where

@@ -10,15 +10,15 @@ use Rattle.ato_cert.specs.declared.cert.Cert.{Cert}
 use Rattle.ato_cert.specs.declared.cert.PickTree.{PickTree}
 use Rattle.ato_cert.specs.declared.cert.Proof.TheVariants as proofs
 use Rattle.ato_cert.specs.declared.cert.Verdict.TheVariants as verdicts
-use Rattle.ato_build.specs.FirstNets.{IsNetList, SharesExactly}
-use Rattle.ato_build.specs.FirstParts.{part_of, slot_count, IsGoodPick, IsFirstGoodPick, NoGoodPick, comp_value}
-use Rattle.ato_build.specs.Netlists.{list_text}
+use Rattle.ato_first.specs.FirstNets.{IsNetList, SharesExactly}
+use Rattle.ato_first.specs.FirstParts.{part_of, slot_count, IsGoodPick, IsFirstGoodPick, NoGoodPick, comp_value}
+use Rattle.ato_writers.specs.Netlists.{list_text}
 use Rattle.ato_build.specs.Problems.{IsCertificate}
 use Rattle.ato_build.specs.Texts.{summary_text}
 use Rattle.ato_build.specs.declared.outputs.Output.{Output}
 use Rattle.ato_build.specs.declared.status.Status.{Status}
 use Rattle.ato_build.specs.declared.status.Status.TheVariants as answers
-use Rattle.ato_build.specs.declared.words.Build.{Build}
+use Rattle.ato_words.specs.declared.words.Build.{Build}
 
 -- the files of a build
 abbrev pub net_output : Build → NetList → Output

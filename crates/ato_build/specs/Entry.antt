@@ -10,10 +10,10 @@ use Rattle.ato_base.specs.declared.places.Place.TheVariants as places
 use Rattle.ato_lexer.specs.FirstForm.{IsFile, IsBad}
 use Rattle.ato_lexer.specs.FirstTokens.{syntax_fault}
 use Rattle.ato_lexer.specs.declared.first_form.Block.{Block}
-use Rattle.ato_build.specs.FirstPoints.{AreKnown, IsUnknownAt}
-use Rattle.ato_build.specs.FirstParts.{HasRanges, IsEmptyAt}
+use Rattle.ato_first.specs.FirstPoints.{AreKnown, IsUnknownAt}
+use Rattle.ato_first.specs.FirstParts.{HasRanges, IsEmptyAt}
 use Rattle.ato_build.specs.Found.{Found, Missing, TooLong, Whole}
-use Rattle.ato_build.specs.declared.words.Build.{Build}
+use Rattle.ato_words.specs.declared.words.Build.{Build}
 
 -- The most bytes that a source file may have.
 abbrev pub source_limit : ℕ

@@ -13,10 +13,10 @@ use Rattle.ato_build.specs.Input.{Input, HasInput, Gives, Stands}
 use Rattle.ato_build.specs.Outputs.{PutsInOrder}
 use Rattle.ato_build.specs.Printing.{Appends, AppendsPrefix}
 use Rattle.ato_build.specs.Texts.{fault_text, read_fault_text, write_fault_text, memory_text, usage_text}
-use Rattle.ato_build.specs.Words.{IsBuild, IsNoJob}
+use Rattle.ato_words.specs.Words.{IsBuild, IsNoJob}
 use Rattle.ato_build.specs.declared.outputs.Output.{Output}
 use Rattle.ato_build.specs.declared.outputs.Stop.{Stop}
-use Rattle.ato_build.specs.declared.words.Build.{Build}
+use Rattle.ato_words.specs.declared.words.Build.{Build}
 use Rattle.ato_build.specs.declared.status.Status.{Status}
 use Rattle.ato_build.specs.declared.status.Status.TheVariants as answers
 

@@ -8,7 +8,7 @@ use Rattle.ato_catalog.specs.Contents.{Contents, contents_of}
 use Rattle.ato_outside.specs.Files.{Files}
 use Rattle.ato_build.specs.Entry.{source_limit, word_fault, GivesBlock, StandsInEntry}
 use Rattle.ato_build.specs.Found.{Found, Missing, TooLong, Whole, found_of, HasFile}
-use Rattle.ato_build.specs.declared.words.Build.{Build}
+use Rattle.ato_words.specs.declared.words.Build.{Build}
 
 -- The most bytes that a catalogue may have.
 abbrev pub catalogue_limit : ℕ

@@ -1,6 +1,4 @@
 pub mod Headline
-pub mod Words
-pub mod PlainNames
 pub mod Found
 pub mod Entry
 pub mod Input
@@ -9,17 +7,7 @@ pub mod Decisions
 pub mod DecisionParts
 pub mod CatalogueRows
 pub mod Fetching
-pub mod LeastEquivalence
-pub mod FirstPoints
-pub mod FirstParts
 pub mod Problems
-pub mod FirstNets
-pub mod FirstBlock
-pub mod FirstJoins
-pub mod FirstGroups
-pub mod ClassNumbers
-pub mod Flooding
-pub mod Netlists
 pub mod Texts
 pub mod Printing
 pub mod Answers

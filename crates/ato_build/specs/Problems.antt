@@ -8,7 +8,7 @@ use Rattle.ato_cert.specs.declared.cert.Cert.{Cert}
 use Rattle.ato_cert.specs.declared.problem.Problem.{Problem}
 use Rattle.ato_cert.specs.declared.problem.Row.{Row}
 use Rattle.ato_cert.specs.declared.problem.Slot.{Slot}
-use Rattle.ato_build.specs.FirstParts.{Part, Candidate, candidates}
+use Rattle.ato_first.specs.FirstParts.{Part, Candidate, candidates}
 
 -- The row is the candidate, with fractions for its whole numbers.
 pub record IsRowOf (row : Row) (candidate : Candidate) : Type 0 where

@@ -6,7 +6,7 @@ use Rattle.ato_base.specs.declared.faults.Fault.{Fault}
 use Rattle.ato_base.specs.declared.nets.NetList.{NetList}
 use Rattle.ato_base.specs.declared.places.Place.{Place}
 use Rattle.ato_base.specs.declared.places.Place.TheVariants as places
-use Rattle.ato_build.specs.declared.words.Build.{Build}
+use Rattle.ato_words.specs.declared.words.Build.{Build}
 use Rattle.ato_build.specs.declared.answer.Said.{Said}
 use Rattle.ato_build.specs.declared.answer.Said.TheVariants as said
 

@@ -10,7 +10,7 @@ ghost use Rattle.ato_build.specs.Found.{Whole, HasFile};
 ghost use Rattle.ato_build.specs.Headline.{Means, Decides};
 ghost use Rattle.ato_build.specs.Input.{catalogue_limit};
 ghost use Rattle.ato_build.specs.Texts.{fault_text, said_text, LiesWithin, read_fault_text, usage_text};
-ghost use Rattle.ato_build.specs.Words.{IsBuild, texts};
+ghost use Rattle.ato_words.specs.Words.{IsBuild, texts};
 
 use crate::answer::{Answer, Said};
 use crate::decisions::{Decision, decide};
@@ -18,8 +18,7 @@ use crate::entry::{block_of, word_fault};
 use crate::fetching::{Fetched, fetch};
 use crate::outputs::{Stop, put_all};
 use crate::texts::{fault_text, read_fault_text, usage_text};
-use crate::words::job;
-use crate::{Build, Status, Task};
+use crate::{Build, Status, Task, job};
 use ato_base::{Fault, FaultKind, NoMemory, Refusal};
 use ato_catalog::read_catalog;
 use ato_lexer::Block;

@@ -10,12 +10,9 @@ ghost use Rattle.ato_cert.specs.Nodes as counting;
 ghost use Rattle.ato_build.specs.Answers.{IsEnd};
 ghost use Rattle.ato_build.specs.Decisions.{IsDecision, net_output, cert_output};
 ghost use Rattle.ato_build.specs.DecisionParts.{PutsBuilt, PutsRefuted};
-ghost use Rattle.ato_build.specs.FirstParts.{part_of, slot_count, HasRanges, comp_value};
-ghost use Rattle.ato_build.specs.FirstPoints.{AreKnown};
+ghost use Rattle.ato_first.specs.FirstParts.{part_of, slot_count, HasRanges, comp_value};
+ghost use Rattle.ato_first.specs.FirstPoints.{AreKnown};
 
-use crate::first_nets::list_of;
-use crate::first_parts::part_of;
-use crate::netlists::net_text;
 use crate::outputs::Output;
 use crate::problems::problem_of;
 use crate::texts::summary_text;
@@ -23,8 +20,10 @@ use crate::{Build, Status};
 use ato_base::{List, NetList, NoMemory, Text};
 use ato_catalog::{Catalog, CatalogRow};
 use ato_cert::{Cert, Proof, cert_text, nodes};
-use ato_search::search;
+use ato_first::{list_of, part_of};
 use ato_lexer::Block;
+use ato_search::search;
+use ato_writers::net_text;
 use std::alloc::Global;
 
 /// What a build decides: how it ends where all goes well, the files that it puts, and its summary.

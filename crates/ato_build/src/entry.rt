@@ -1,17 +1,14 @@
 //! The source of the entry file as a block, or its first fault.
-ghost use Rattle.std.specs.Prelude.{◌≡◌, ◌+◌, ◌≤◌, ◌<◌, ◌^◌, IfOk, IfErr, MatchOption, length};
+ghost use Rattle.std.specs.Prelude.{◌≡◌, ◌≤◌, ◌<◌, ◌^◌, IfOk, IfErr, MatchOption, length};
 ghost use Rattle.ato_lexer.specs.FirstForm.{block_text, IsFront};
-ghost use Rattle.ato_build.specs.FirstPoints.{AreKnown, IsUnknownAt};
-ghost use Rattle.ato_build.specs.FirstParts.{HasRanges, IsEmptyAt};
+ghost use Rattle.ato_first.specs.FirstPoints.{AreKnown};
+ghost use Rattle.ato_first.specs.FirstParts.{HasRanges};
 ghost use Rattle.ato_build.specs.Found.{Whole};
 ghost use Rattle.ato_build.specs.Entry.{word_fault, line_fault, source_limit, GivesBlock, IsLineFault, IsRefused};
 
 use crate::Build;
-use crate::first_block::read_block;
-use crate::first_lines::{EmptyRange, UnknownName, first_line};
-use crate::first_parts::attribute_of;
-use crate::first_points::points_of;
 use ato_base::{Fault, FaultKind, FileId, List, NameTable, NoMemory, Place, Refusal, Span};
+use ato_first::{empty_line, read_block, unknown_line};
 use ato_lexer::{Block, lex};
 use std::alloc::Global;
 
@@ -43,44 +40,6 @@ fn line_fault(alloc: Global, kind: FaultKind, at: u32) -> Fault
         }),
         other: None,
         path: List::new(alloc),
-    }
-}
-
-/// Where the lines of a block begin.
-fn lines_start(block: &Block) -> usize
-    requires { length (block_text block.now) < 2 ^ 32 }
-    ensures { result ≡ 12 + length block.now.name }
-{
-    12 + block.name.as_str().len()
-}
-
-/// Where the first line of a block begins that mentions a name which is not known.
-fn unknown_line(alloc: Global, block: &Block) -> Result<Option<u32>, NoMemory>
-    requires front { IsFront block.now }
-    requires size { length (block_text block.now) < 2 ^ 32 }
-    ensures { IfOk result (λ found. MatchOption found (AreKnown block.now) (IsUnknownAt block.now)) }
-{
-    let lines = block.lines.as_slice();
-    let points = points_of(alloc, lines)?;
-    let unknown = UnknownName {
-        signals: &points.signals,
-        attribute: attribute_of(lines),
-    };
-    match first_line(&unknown, lines, lines_start(block)) {
-        None => Ok(None),
-        Some(at) => Ok(Some(at as u32)),
-    }
-}
-
-/// Where the first line of a block begins that asserts a range without a value.
-fn empty_line(block: &Block) -> Option<u32>
-    requires front { IsFront block.now }
-    requires size { length (block_text block.now) < 2 ^ 32 }
-    ensures { MatchOption result (HasRanges block.now) (IsEmptyAt block.now) }
-{
-    match first_line(&EmptyRange, block.lines.as_slice(), lines_start(block)) {
-        None => None,
-        Some(at) => Some(at as u32),
     }
 }
 

@@ -7,30 +7,18 @@
 
 mod answer;
 mod build;
-mod classes;
 mod decisions;
 mod entry;
 mod fetching;
-mod first_block;
-mod first_groups;
-mod first_lines;
-mod first_nets;
-mod first_parts;
-mod first_points;
-mod netlists;
 mod outputs;
-mod plain_names;
 mod printing;
 mod problems;
 mod running;
 mod status;
 #[cfg(test)]
 mod tests;
-mod text_set;
 mod texts;
-mod word_line;
-mod words;
 
+pub use ato_words::{Build, Task, job};
 pub use running::run;
 pub use status::Status;
-pub use words::{Build, Task, job};

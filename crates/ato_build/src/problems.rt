@@ -6,14 +6,15 @@ ghost use Rattle.ato_catalog.specs.Catalogue.{ShowsContents};
 ghost use Rattle.ato_catalog.specs.Contents.{Contents, cell_under};
 ghost use Rattle.ato_catalog.specs.WellMade as catalogues;
 ghost use Rattle.ato_cert.specs.Problems.{IsWellMade, IsWellMadeSlot, HasAtMost};
-ghost use Rattle.ato_build.specs.FirstParts as parts;
-ghost use Rattle.ato_build.specs.CatalogueRows.{first_cell, row_in, rows_from, shown_part, IsInOrder};
+ghost use Rattle.ato_first.specs.FirstParts as parts;
+ghost use Rattle.ato_build.specs.CatalogueRows.{first_cell, row_in, rows_from};
+ghost use Rattle.ato_first.specs.ShownParts.{shown_part, IsInOrder};
 ghost use Rattle.ato_build.specs.Problems.{IsProblem, IsSlotOf};
 
-use crate::first_parts::Part;
 use ato_base::{List, NoMemory};
 use ato_catalog::{Catalog, CatalogRow, Column, whole};
 use ato_cert::{Problem, Row, Slot};
+use ato_first::Part;
 use ato_frac::Frac;
 use std::alloc::Global;
 

@@ -4,12 +4,12 @@ ghost use Rattle.ato_base.specs.declared.faults.FaultKind.TheVariants as kinds;
 ghost use Rattle.ato_lexer.specs.declared.first_form.Block.{Block};
 ghost use Rattle.ato_outside.specs.Causes.{Rose};
 ghost use Rattle.ato_build.specs.Headline.{Headline, IsToldWriteFault};
-ghost use Rattle.ato_build.specs.Words.{texts, IsBuild, IsNoJob};
+ghost use Rattle.ato_words.specs.Words.{texts, IsBuild, IsNoJob};
 ghost use Rattle.ato_build.specs.Causes.{EndsOutside};
 ghost use Rattle.ato_catalog.specs.Contents.{Contents};
-ghost use Rattle.ato_build.specs.FirstParts.{part_of, IsGoodPick, NoGoodPick};
+ghost use Rattle.ato_first.specs.FirstParts.{part_of, IsGoodPick, NoGoodPick};
 ghost use Rattle.ato_build.specs.Input.{input_of, Gives, Stands};
-ghost use Rattle.ato_build.specs.declared.words.Build.{Build};
+ghost use Rattle.ato_words.specs.declared.words.Build.{Build};
 
 use crate::Status;
 use crate::answer::Answer;

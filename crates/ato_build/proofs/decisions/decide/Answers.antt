@@ -1,7 +1,7 @@
 use Rattle.std.proofs.Common.{subst}
 use Rattle.ato_build.specs.Problems.{IsProblem}
 use Rattle.ato_build.proofs.DecisionLemmas.{built_decided, refuted_decided}
-use Rattle.ato_build.proofs.FirstPartLemmas.{shown, shown_in_order}
+use Rattle.ato_first.proofs.FirstPartLemmas.{shown, shown_in_order}
 use Rattle.ato_build.proofs.decisions.decide.Goals as goal
 
 pub problem_of-requires-clause-order : goal.problem_of-requires-clause-order

@@ -1,4 +1,4 @@
-use Rattle.ato_build.specs.Words.{texts}
+use Rattle.ato_words.specs.Words.{texts}
 use Rattle.ato_build.specs.Texts.{said_text}
 use Rattle.std.proofs.Common.{inl, inr, refl}
 use Rattle.ato_build.proofs.BuildLemmas.{printed, caused}

@@ -1,5 +1,0 @@
-use Rattle.ato_build.proofs.FirstGroupLemmas.{Grouped}
-use Rattle.ato_build.proofs.first_groups.groups_of.Given as goal
-
-abbrev pub invariant-loop-pin : goal.invariant-loop-pin
-invariant-loop-pin l = Grouped l.of l.first l.pin l.groups l.places.items

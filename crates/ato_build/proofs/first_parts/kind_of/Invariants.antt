@@ -1,6 +1,0 @@
-use Rattle.std.proofs.Common.{◌≡◌, drop}
-use Rattle.ato_lexer.specs.PartLines.{kind_of}
-use Rattle.ato_build.proofs.first_parts.kind_of.Given as goal
-
-abbrev pub invariant-loop-line : goal.invariant-loop-line
-invariant-loop-line l = kind_of (drop l.line-index l.lines) ≡ kind_of l.lines

@@ -1,6 +1,0 @@
-use Rattle.std.proofs.Common.{◌≡◌, take}
-use Rattle.ato_build.specs.FirstJoins.{lines_joins}
-use Rattle.ato_build.proofs.first_points.joins_of.Given as goal
-
-abbrev pub invariant-loop-line : goal.invariant-loop-line
-invariant-loop-line l = l.joins.items ≡ lines_joins l.points (take l.line-index l.lines)

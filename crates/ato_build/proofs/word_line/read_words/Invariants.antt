@@ -1,6 +1,0 @@
-use Rattle.std.proofs.Common.{◌≡◌, take}
-use Rattle.ato_build.specs.Words.{line_of, texts}
-use Rattle.ato_build.proofs.word_line.read_words.Given as goal
-
-abbrev pub invariant-loop-word : goal.invariant-loop-word
-invariant-loop-word l = l.line ≡ line_of (texts (take l.word-index l.words))

@@ -1,0 +1,165 @@
+-- The pins of a block: each one that is mentioned, once.
+use Rattle.std.proofs.Common.{◌≡◌, ℕ, zero, suc, ◌<◌, Bool, true, false, not, cond, ◌||◌, List, [], ◌∷◌, filter, map, length, get_or, ap, sym, ◌∙◌, refl, subst, inl, inr, arith}
+use Rattle.std.specs.Prelude.{Contains, Some}
+use Rattle.std.specs.List.{AllZip, slice_get}
+use Rattle.std.proofs.lemmas.List.{get_or_default}
+use Rattle.ato_base.specs.Joined.{same}
+use Rattle.ato_base.specs.declared.nets.Net.{Net}
+use Rattle.ato_base.specs.declared.nets.NetList.{NetList}
+use Rattle.ato_base.proofs.ClassLaws.{cases, first, later, nowhere, in_range, class_related, class_shared, class_once}
+use Rattle.ato_base.proofs.JoinedLaws.{joined_direct, joined_sym, joined_trans, joined_least}
+use Rattle.ato_first.specs.LeastEquivalence.{IsLeastEquivalence}
+use Rattle.ato_lexer.specs.declared.first_form.Point.TheVariants.{Pin}
+use Rattle.ato_lexer.specs.declared.first_form.Block.{Block}
+use Rattle.ato_first.specs.FirstNets.{net_pin, IsNet, IsNetList, StandsIn, SharesExactly}
+use Rattle.std.specs.List.{list_any, AllByRecursion, IsDistinct}
+use Rattle.std.specs.Str.{bytes_eq}
+use Rattle.std.proofs.lemmas.Bool.Decides.{same_from_decides, Decides-like}
+use Rattle.std.proofs.lemmas.Map.Keys.{IsDistinct-head, IsDistinct-tail, IsDistinct-cons}
+use Rattle.std.proofs.lemmas.Slice.Eq.{bytes_eq-Decides}
+use Rattle.ato_first.specs.FirstPoints.{distinct, AreJoined, IsJoinedByLine}
+
+-- the texts that are not this one
+abbrev pub others : List ℕ → List (List ℕ) → List (List ℕ)
+others text texts = filter (λ other. not (bytes_eq text other)) texts
+
+-- the order of the two sides does not matter
+pub bytes_eq-flip : (a b : List ℕ) → bytes_eq a b ≡ bytes_eq b a
+bytes_eq-flip a b = same_from_decides (bytes_eq a b) (bytes_eq b a) (bytes_eq-Decides a b) (Decides-like (bytes_eq b a) sym sym (bytes_eq-Decides b a))
+
+-- what differs from a text differs from each text that is equal to it
+differs : (l x y : List ℕ) → bytes_eq l x ≡ false → bytes_eq x y ≡ true → bytes_eq l y ≡ false
+differs l x y h e = ap (bytes_eq l) (sym ((bytes_eq-Decides x y).0 e)) ∙ h
+
+others_step : (l x y : List ℕ) (ys : List (List ℕ)) (b : Bool) → bytes_eq x y ≡ b → bytes_eq l x ≡ false →
+    list_any (bytes_eq l) (others x ys) ≡ list_any (bytes_eq l) ys →
+    list_any (bytes_eq l) (cond (not b) (y ∷ others x ys) (others x ys)) ≡ (bytes_eq l y || list_any (bytes_eq l) ys)
+others_step l x y ys true e h rest = rest ∙ ap (λ b. b || list_any (bytes_eq l) ys) (sym (differs l x y h e))
+others_step l x y ys false e h rest = ap (λ b. bytes_eq l y || b) rest
+
+-- without one text, the same of the other texts stand there
+pub any-others : (l x : List ℕ) (ys : List (List ℕ)) → bytes_eq l x ≡ false → list_any (bytes_eq l) (others x ys) ≡ list_any (bytes_eq l) ys
+any-others l x [] h = refl
+any-others l x (y ∷ ys) h = others_step l x y ys (bytes_eq x y) refl h (any-others l x ys h)
+
+same_step : (l x : List ℕ) (xs : List (List ℕ)) (b : Bool) → bytes_eq l x ≡ b → list_any (bytes_eq l) (distinct xs) ≡ list_any (bytes_eq l) xs →
+    (b || list_any (bytes_eq l) (others x (distinct xs))) ≡ (b || list_any (bytes_eq l) xs)
+same_step l x xs true e rest = refl
+same_step l x xs false e rest = any-others l x (distinct xs) e ∙ rest
+
+-- Each text of the list stands in the distinct ones, and no other does.
+pub distinct_same : (l : List ℕ) (xs : List (List ℕ)) → list_any (bytes_eq l) (distinct xs) ≡ list_any (bytes_eq l) xs
+distinct_same l [] = refl
+distinct_same l (x ∷ xs) = same_step l x xs (bytes_eq l x) refl (distinct_same l xs)
+
+apart_step : (x y : List ℕ) (ys : List (List ℕ)) (b : Bool) → bytes_eq x y ≡ b → AllByRecursion (λ z. bytes_eq x z ≡ false) (others x ys) →
+    AllByRecursion (λ z. bytes_eq x z ≡ false) (cond (not b) (y ∷ others x ys) (others x ys))
+apart_step x y ys true e rest = rest
+apart_step x y ys false e rest = (e, rest)
+
+-- a text differs from the others
+others_apart : (x : List ℕ) (ys : List (List ℕ)) → AllByRecursion (λ z. bytes_eq x z ≡ false) (others x ys)
+others_apart x [] = tt
+others_apart x (y ∷ ys) = apart_step x y ys (bytes_eq x y) refl (others_apart x ys)
+
+kept_step : (x z : List ℕ) (zs kept : List (List ℕ)) (b : Bool) → bytes_eq x z ≡ false → AllByRecursion (λ y. bytes_eq x y ≡ false) kept →
+    AllByRecursion (λ y. bytes_eq x y ≡ false) (cond b (z ∷ kept) kept)
+kept_step x z zs kept true e rest = (e, rest)
+kept_step x z zs kept false e rest = rest
+
+-- a text that differs from each of some texts differs from each that is kept of them
+kept_apart : (x : List ℕ) (p : List ℕ → Bool) (ys : List (List ℕ)) → AllByRecursion (λ y. bytes_eq x y ≡ false) ys → AllByRecursion (λ y. bytes_eq x y ≡ false) (filter p ys)
+kept_apart x p [] h = tt
+kept_apart x p (y ∷ ys) h = kept_step x y ys (filter p ys) (p y) h.0 (kept_apart x p ys h.1)
+
+once_step : (y : List ℕ) (kept : List (List ℕ)) (b : Bool) → AllByRecursion (λ z. bytes_eq y z ≡ false) kept → IsDistinct bytes_eq kept →
+    IsDistinct bytes_eq (cond b (y ∷ kept) kept)
+once_step y kept true apart rest = IsDistinct-cons bytes_eq y kept apart rest
+once_step y kept false apart rest = rest
+
+-- texts that differ still do where some are left out
+kept_once : (p : List ℕ → Bool) (ys : List (List ℕ)) → IsDistinct bytes_eq ys → IsDistinct bytes_eq (filter p ys)
+kept_once p [] h = h
+kept_once p (y ∷ ys) h =
+    once_step y (filter p ys) (p y) (kept_apart y p ys (IsDistinct-head bytes_eq y ys h)) (kept_once p ys (IsDistinct-tail bytes_eq y ys h))
+
+nothing_once : IsDistinct bytes_eq []
+unfolding IsDistinct
+nothing_once = tt
+
+-- No text stands twice.
+pub distinct_once : (xs : List (List ℕ)) → IsDistinct bytes_eq (distinct xs)
+distinct_once [] = nothing_once
+distinct_once (x ∷ xs) =
+    IsDistinct-cons bytes_eq x (others x (distinct xs)) (others_apart x (distinct xs)) (kept_once (λ other. not (bytes_eq x other)) (distinct xs) (distinct_once xs))
+
+-- ---- the nets of a net list
+
+-- an element and what it is mapped to
+in_map : {A B : Type 0} (f : A → B) (xs : List A) (x : A) → Contains xs x → Contains (map f xs) (f x)
+in_map f [] x h = absurd (nowhere x h)
+in_map f (y ∷ ys) x h = elim (cases y x ys h) [ inl e ↦ subst (λ z. Contains (f y ∷ map f ys) (f z)) (sym e) (first (f y) (map f ys)) | inr m ↦ later (f y) (f x) (map f ys) (in_map f ys x m) ]
+
+pin_of : (labels : List (List ℕ)) (label : List ℕ) → Contains (map net_pin labels) (net_pin label) → Contains labels label
+pin_of [] label h = absurd (nowhere (net_pin label) h)
+pin_of (l ∷ ls) label h = elim (cases (net_pin l) (net_pin label) (map net_pin ls) h) [
+  | inl e ↦ subst (Contains (l ∷ ls)) (sym (ap (λ pin. pin.label) e)) (first l ls)
+  | inr m ↦ later l label ls (pin_of ls label m)
+]
+
+-- the pins of a net
+net_labels : (block : Block) (class : List (List ℕ)) (net : Net) → IsNet block class net → net.pins ≡ map net_pin class
+net_labels block [] net h = absurd h
+net_labels block (label ∷ labels) net h = h.1
+
+-- the class of a net at a place, and the net of a class
+zip_class : (block : Block) (classes : List (List (List ℕ))) (nets : List Net) → AllZip (IsNet block) classes nets → (k : ℕ) (net : Net) → slice_get nets k ≡ Some net → (k < length classes) × IsNet block (get_or classes k []) net
+zip_class block [] [] z k net e = let bad : ⊥ = cc in absurd bad
+zip_class block [] (n ∷ ns) z k net e = absurd z
+zip_class block (c ∷ cs) [] z k net e = absurd z
+zip_class block (c ∷ cs) (n ∷ ns) z zero net e = let same : n ≡ net = cc in (omega arith, subst (IsNet block c) same z.0)
+zip_class block (c ∷ cs) (n ∷ ns) z (suc k) net e = let more = zip_class block cs ns z.1 k net e in (omega (arith, more.0), more.1)
+
+zip_net : (block : Block) (classes : List (List (List ℕ))) (nets : List Net) → AllZip (IsNet block) classes nets → (k : ℕ) → k < length classes → (net : Net) × (slice_get nets k ≡ Some net) × IsNet block (get_or classes k []) net
+zip_net block [] nets z k h = absurd (omega arith)
+zip_net block (c ∷ cs) [] z k h = absurd z
+zip_net block (c ∷ cs) (n ∷ ns) z zero h = (n, refl, z.0)
+zip_net block (c ∷ cs) (n ∷ ns) z (suc k) h = zip_net block cs ns z.1 k (omega arith)
+
+module _ (block : Block) (value : List ℕ) (list : NetList) (is : IsNetList block value list) where
+  -- a pin that stands in a net stands in the class at its place
+  in_class : (label : List ℕ) (place : ℕ) → StandsIn list label place → (place < length is.classes) × Contains (get_or is.classes place []) label
+  in_class label place (net, at, pin) =
+      let class = zip_class block is.classes list.nets is.nets place net at in
+      (class.0, pin_of (get_or is.classes place []) label (subst (λ pins. Contains pins (net_pin label)) (net_labels block (get_or is.classes place []) net class.1) pin))
+
+  -- Two pins share a net exactly where they are joined, and each pin stands in exactly one net.
+  pub shares_exactly : SharesExactly block list
+  shares_exactly = record {
+    joined = λ a b place h k.
+        let left = in_class a place h in
+        class_related (λ p q. AreJoined block (Pin p) (Pin q)) (λ p. same) (λ p q j. joined_sym (IsJoinedByLine block) j) (λ p q r j l. joined_trans (IsJoinedByLine block) j l)
+        is.are_classes (get_or is.classes place []) a b (place, left.0, in_range is.classes place left.0) left.1 (in_class b place k).1;
+    shared = λ a b h k j.
+        let found = class_shared (λ p q. AreJoined block (Pin p) (Pin q)) (λ p. same) (λ p q i. joined_sym (IsJoinedByLine block) i) (λ p q r i l. joined_trans (IsJoinedByLine block) i l) is.are_classes a b h k j in
+        let net = zip_net block is.classes list.nets is.nets found.1.0 found.1.1 in
+        let class : get_or is.classes found.1.0 [] ≡ found.0 = get_or_default is.classes found.1.0 [] found.0 found.1.1 ∙ found.1.2 in
+        let pins : net.0.pins ≡ map net_pin found.0 = net_labels block (get_or is.classes found.1.0 []) net.0 net.2 ∙ ap (map net_pin) class in (
+          found.1.0,
+          (net.0, net.1, subst (λ ps. Contains ps (net_pin a)) (sym pins) (in_map net_pin found.0 a found.2)),
+          (net.0, net.1, subst (λ ps. Contains ps (net_pin b)) (sym pins) (in_map net_pin found.0 b found.3)),
+        );
+    once = λ a place other h k.
+        let left = in_class a place h in let right = in_class a other k in
+        class_once (λ p q. AreJoined block (Pin p) (Pin q)) (λ p. same) is.are_classes place other a left.0 right.0 left.1 right.1;
+  }
+
+-- being joined is the least equivalence that holds the joins of the lines
+pub joined_by_lines : (block : Block) → IsLeastEquivalence (IsJoinedByLine block) (AreJoined block)
+joined_by_lines block = record {
+  self = λ p. same;
+  flip = λ p q. joined_sym (IsJoinedByLine block);
+  chain = λ p q r. joined_trans (IsJoinedByLine block);
+  holds = λ p q. joined_direct (IsJoinedByLine block);
+  least = λ other self flip chain holds p q. joined_least (IsJoinedByLine block) (λ a b. other a b ≡ true) self flip chain holds;
+}

@@ -1,0 +1,110 @@
+-- The points of lines, and the sizes of lines.
+use Rattle.std.proofs.Common.{◌≡◌, ℕ, ◌<◌, ◌≤◌, ◌+◌, Bool, true, false, not, cond, ◌||◌, List, [], ◌∷◌, ◌++◌, length, take, drop, get_or, ap, sym, ◌∙◌, refl, append-nil, append_assoc, if◌then◌else◌, arith, length-append, suc, take-append-drop, drop-cons, add-one}
+use Rattle.std.specs.List.{list_any}
+use Rattle.std.specs.Str.{bytes_eq}
+use Rattle.std.proofs.lemmas.List.{take_more, take_all}
+use Rattle.std.proofs.lemmas.List.Elements.{filter-append}
+use Rattle.ato_first.proofs.FirstNetLaws.{others, bytes_eq-flip, any-others}
+use Rattle.std.proofs.lemmas.Grind.{flat_map-append}
+use Rattle.ato_base.specs.NameTable.{with_name}
+use Rattle.ato_lexer.specs.FirstForm.{lined, line_text, lines_text}
+use Rattle.ato_lexer.specs.declared.first_form.Point.{Point}
+use Rattle.ato_lexer.specs.declared.first_form.Point.TheVariants.{Signal, Pin}
+use Rattle.ato_lexer.specs.declared.first_form.Line.{Line}
+use Rattle.ato_first.specs.FirstPoints.{distinct, signal_names, pin_labels, line_points, lines_points}
+use Rattle.ato_first.specs.FirstJoins.{with_names}
+
+with_names-append : (names xs ys : List (List ℕ)) → with_names names (xs ++ ys) ≡ with_names (with_names names xs) ys
+with_names-append names [] ys = refl
+with_names-append names (x ∷ xs) ys = with_names-append (with_name names x) xs ys
+
+signal_names-append : (xs ys : List Point) → signal_names (xs ++ ys) ≡ signal_names xs ++ signal_names ys
+signal_names-append [] ys = refl
+signal_names-append (Signal name ∷ xs) ys = ap (λ l. name ∷ l) (signal_names-append xs ys)
+signal_names-append (Pin label ∷ xs) ys = signal_names-append xs ys
+
+pin_labels-append : (xs ys : List Point) → pin_labels (xs ++ ys) ≡ pin_labels xs ++ pin_labels ys
+pin_labels-append [] ys = refl
+pin_labels-append (Signal name ∷ xs) ys = pin_labels-append xs ys
+pin_labels-append (Pin label ∷ xs) ys = ap (λ l. label ∷ l) (pin_labels-append xs ys)
+
+-- the points up to a line, and of the line
+points_more : (lines : List Line) (i : ℕ) (line : Line) → i < length lines → line ≡ get_or lines i line → lines_points (take (i + 1) lines) ≡ lines_points (take i lines) ++ line_points line
+points_more lines i line h is =
+    ap lines_points (take_more lines i line h ∙ ap (λ l. take i lines ++ l ∷ []) (sym is))
+    ∙ flat_map-append line_points (take i lines) (line ∷ [])
+    ∙ ap (λ l. lines_points (take i lines) ++ l) (append-nil (line_points line))
+
+-- the signals and pins after one more line
+pub signals_more : (lines : List Line) (i : ℕ) (line : Line) → i < length lines → line ≡ get_or lines i line →
+    with_names [] (signal_names (lines_points (take (i + 1) lines))) ≡ with_names (with_names [] (signal_names (lines_points (take i lines)))) (signal_names (line_points line))
+signals_more lines i line h is =
+    ap (λ l. with_names [] (signal_names l)) (points_more lines i line h is)
+    ∙ ap (with_names []) (signal_names-append (lines_points (take i lines)) (line_points line))
+    ∙ with_names-append [] (signal_names (lines_points (take i lines))) (signal_names (line_points line))
+
+pub pins_more : (lines : List Line) (i : ℕ) (line : Line) → i < length lines → line ≡ get_or lines i line →
+    with_names [] (pin_labels (lines_points (take (i + 1) lines))) ≡ with_names (with_names [] (pin_labels (lines_points (take i lines)))) (pin_labels (line_points line))
+pins_more lines i line h is =
+    ap (λ l. with_names [] (pin_labels l)) (points_more lines i line h is)
+    ∙ ap (with_names []) (pin_labels-append (lines_points (take i lines)) (line_points line))
+    ∙ with_names-append [] (pin_labels (lines_points (take i lines))) (pin_labels (line_points line))
+
+-- the bytes up to a line, and of the line
+pub size_more : (lines : List Line) (i : ℕ) (line : Line) → i < length lines → line ≡ get_or lines i line → length (lines_text (take (i + 1) lines)) ≡ length (lines_text (take i lines)) + length (lined (line_text line))
+size_more lines i line h is =
+    ap (λ l. length (lines_text l)) (take_more lines i line h ∙ ap (λ l. take i lines ++ l ∷ []) (sym is))
+    ∙ ap length (flat_map-append (λ l. lined (line_text l)) (take i lines) (line ∷ []))
+    ∙ ap (λ l. length (lines_text (take i lines) ++ l)) (append-nil (lined (line_text line)))
+    ∙ length-append (lines_text (take i lines)) (lined (line_text line))
+
+-- the bytes of some lines are among those of all
+pub size_within : (lines : List Line) (i : ℕ) → length (lines_text (take i lines)) ≤ length (lines_text lines)
+size_within lines i =
+    omega (arith, ap (λ l. length (lines_text l)) (take-append-drop i lines), ap length (flat_map-append (λ l. lined (line_text l)) (take i lines) (drop i lines)), length-append (lines_text (take i lines)) (lines_text (drop i lines)))
+
+-- ---- texts, each once
+
+-- one more text at the end, where it is equal to the first one, or stands behind it, or is new
+push_step : (x y : List ℕ) (ds : List (List ℕ)) (a m : Bool) → bytes_eq y x ≡ a → list_any (bytes_eq y) ds ≡ m →
+    x ∷ others x (if m then ds else ds ++ y ∷ []) ≡ (if (a || list_any (bytes_eq y) (others x ds)) then x ∷ others x ds else (x ∷ others x ds) ++ y ∷ [])
+push_step x y ds true true e h = refl
+push_step x y ds true false e h =
+    let same : bytes_eq x y ≡ true = bytes_eq-flip x y ∙ e in
+    let gone : others x (y ∷ []) ≡ [] = ap (λ b. cond (not b) (y ∷ []) []) same in
+    ap (λ l. x ∷ l) (filter-append (λ other. not (bytes_eq x other)) ds (y ∷ []) ∙ ap (λ l. others x ds ++ l) gone ∙ append-nil (others x ds))
+push_step x y ds false true e h =
+    let there : list_any (bytes_eq y) (others x ds) ≡ true = any-others y x ds e ∙ h in
+    ap (λ b. if b then x ∷ others x ds else (x ∷ others x ds) ++ y ∷ []) (sym there)
+push_step x y ds false false e h =
+    let differs : bytes_eq x y ≡ false = bytes_eq-flip x y ∙ e in
+    let new : others x (y ∷ []) ≡ y ∷ [] = ap (λ b. cond (not b) (y ∷ []) []) differs in
+    let absent : list_any (bytes_eq y) (others x ds) ≡ false = any-others y x ds e ∙ h in
+    ap (λ l. x ∷ l) (filter-append (λ other. not (bytes_eq x other)) ds (y ∷ []) ∙ ap (λ l. others x ds ++ l) new)
+    ∙ ap (λ b. if b then x ∷ others x ds else (x ∷ others x ds) ++ y ∷ []) (sym absent)
+
+-- the distinct texts after one more
+pub distinct-push : (xs : List (List ℕ)) (y : List ℕ) → distinct (xs ++ y ∷ []) ≡ with_name (distinct xs) y
+distinct-push [] y = refl
+distinct-push (x ∷ xs) y =
+    ap (λ l. x ∷ others x l) (distinct-push xs y)
+    ∙ push_step x y (distinct xs) (bytes_eq y x) (list_any (bytes_eq y) (distinct xs)) refl refl
+
+-- texts mentioned one after another are the distinct ones
+mentioned : (xs ys : List (List ℕ)) → with_names (distinct xs) ys ≡ distinct (xs ++ ys)
+mentioned xs [] = ap distinct (sym (append-nil xs))
+mentioned xs (y ∷ ys) = ap (λ l. with_names l ys) (sym (distinct-push xs y)) ∙ mentioned (xs ++ y ∷ []) ys ∙ ap distinct (append_assoc xs (y ∷ []) ys)
+
+pub all_mentioned : (xs : List (List ℕ)) → with_names [] xs ≡ distinct xs
+all_mentioned xs = mentioned [] xs
+
+-- ---- lists of lines
+
+-- all lines, once the index has passed them
+pub all_lines : (lines : List Line) (i : ℕ) → length lines ≤ i → take i lines ≡ lines
+all_lines lines i h = take_all i lines h
+
+-- the lines at one of them
+pub cut_line : (lines : List Line) (i : ℕ) (line : Line) → i < length lines → line ≡ get_or lines i line → lines ≡ take i lines ++ line ∷ drop (i + 1) lines
+cut_line lines i line h is =
+    sym (take-append-drop i lines) ∙ ap (λ l. take i lines ++ l) (drop-cons lines i line h ∙ ap (λ x. x ∷ drop (suc i) lines) (sym is) ∙ ap (λ n. line ∷ drop n lines) (sym (add-one i)))

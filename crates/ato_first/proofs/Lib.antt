@@ -1,0 +1,10 @@
+pub mod FirstBlockLemmas
+pub mod FirstGroupLemmas
+pub mod FirstLineLemmas
+pub mod FirstListLemmas
+pub mod FirstNetLaws
+pub mod FirstNumberLemmas
+pub mod FirstPartLemmas
+pub mod FirstPointLemmas
+pub mod LineFaultLemmas
+pub mod TextSetLemmas

@@ -1,0 +1,8 @@
+pub mod FirstBlock
+pub mod FirstGroups
+pub mod FirstJoins
+pub mod FirstNets
+pub mod FirstParts
+pub mod FirstPoints
+pub mod LeastEquivalence
+pub mod ShownParts

@@ -1,0 +1,3 @@
+pub mod ClassNumberLaws
+pub mod FloodLemmas
+pub mod RowLemmas

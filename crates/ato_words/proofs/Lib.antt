@@ -1,0 +1,3 @@
+pub mod PlainNameLemmas
+pub mod WordLaws
+pub mod WordLemmas

@@ -1,0 +1,12 @@
+//! The words of the command line as a task.
+//!
+//! Words come in, and the task that they are goes out, or none: `IsJob` and `IsNoJob` of
+//! specs/Words.antt are the contract of [`job`]. Names of files that may be read or put are those of
+//! specs/PlainNames.antt.
+#![tactic(auto)]
+
+mod plain_names;
+mod word_line;
+mod words;
+
+pub use words::{Build, Task, job};
