@@ -30,7 +30,7 @@ use Rattle.ato_build.specs.Decisions.{IsDecision}
 use Rattle.ato_build.specs.DecisionParts.{PutsBuilt, PutsRefuted}
 use Rattle.ato_build.specs.declared.decisions.Decision.{Decision}
 use Rattle.ato_build.specs.declared.status.Status.TheVariants as answers
-use Rattle.ato_words.specs.declared.words.Build.{Build}
+use Rattle.ato_build.specs.declared.project.Options.{Options}
 use Rattle.ato_cert.specs.declared.problem.Problem.{Problem}
 use Rattle.ato_cert.specs.declared.problem.Row.{Row}
 use Rattle.ato_cert.specs.declared.problem.Slot.{Slot}
@@ -189,15 +189,15 @@ picked_value block catalog pick number row some is found contents shows =
 -- ---- decisions
 
 -- a pick that the certificate has built
-pub built_decided : (build : Build) (block : Block) (catalog : Catalog) (problem : Problem) (cert : Cert) (pick numbers : List ℕ) (boxes : List BoxTree) (result : Result Decision NoMemory)
-    → ((contents : Contents) → ShowsContents catalog contents → IsProblem (part_of block.lines) contents problem) → IsValid problem cert → cert.steps ≡ build.steps → searches.Decides problem cert.proof
-    → cert.proof ≡ proofs.Built pick boxes → numbers ≡ pick → IfOk result (λ d. d.status ≡ answers.Built) → IfOk result (λ d. (contents : Contents) → ShowsContents catalog contents → PutsBuilt build block contents numbers cert d)
-    → IfOk result (λ d. (contents : Contents) → ShowsContents catalog contents → IsDecision build block contents d.status d.outputs.items (string_bytes d.summary))
-built_decided build block catalog problem cert pick numbers boxes (Err e) is valid steps decides built same status puts = tt
-built_decided build block catalog problem cert pick numbers boxes (Ok d) is valid steps decides built same status puts = λ contents shows.
-    let put : PutsBuilt build block contents pick cert d = subst (λ p. PutsBuilt build block contents p cert d) same (puts contents shows) in
+pub built_decided : (options : Options) (block : Block) (catalog : Catalog) (problem : Problem) (cert : Cert) (pick numbers : List ℕ) (boxes : List BoxTree) (result : Result Decision NoMemory)
+    → ((contents : Contents) → ShowsContents catalog contents → IsProblem (part_of block.lines) contents problem) → IsValid problem cert → cert.steps ≡ options.steps → searches.Decides problem cert.proof
+    → cert.proof ≡ proofs.Built pick boxes → numbers ≡ pick → IfOk result (λ d. d.status ≡ answers.Built) → IfOk result (λ d. (contents : Contents) → ShowsContents catalog contents → PutsBuilt options block contents numbers cert d)
+    → IfOk result (λ d. (contents : Contents) → ShowsContents catalog contents → IsDecision options block contents d.status d.outputs.items (string_bytes d.summary))
+built_decided options block catalog problem cert pick numbers boxes (Err e) is valid steps decides built same status puts = tt
+built_decided options block catalog problem cert pick numbers boxes (Ok d) is valid steps decides built same status puts = λ contents shows.
+    let put : PutsBuilt options block contents pick cert d = subst (λ p. PutsBuilt options block contents p cert d) same (puts contents shows) in
     let first : problems.IsFirstGood problem pick = subst (searches.Decides problem) built decides in
-    subst (λ s. IsDecision build block contents s d.outputs.items (string_bytes d.summary)) (sym status) (
+    subst (λ s. IsDecision options block contents s d.outputs.items (string_bytes d.summary)) (sym status) (
       pick,
       record {
         good = good_pick (part_of block.lines) contents problem pick (is contents shows) (first_is_good problem pick first);
@@ -205,7 +205,7 @@ built_decided build block catalog problem cert pick numbers boxes (Ok d) is vali
         list = put.list;
         list_is = put.list_is;
         cert = cert;
-        cert_is = record { problem = problem; is_problem = is contents shows; valid = valid; steps_are = steps };
+        cert_is = record { valid = record { problem = problem; is_problem = is contents shows; valid = valid }; steps_are = steps };
         boxes = boxes;
         proof = built;
         outputs_are = put.outputs_are;
@@ -214,20 +214,20 @@ built_decided build block catalog problem cert pick numbers boxes (Ok d) is vali
     )
 
 -- picks that the certificate has refuted
-pub refuted_decided : (build : Build) (block : Block) (catalog : Catalog) (problem : Problem) (cert : Cert) (verdict : Verdict) (tree : PickTree) (result : Result Decision NoMemory)
-    → ((contents : Contents) → ShowsContents catalog contents → IsProblem (part_of block.lines) contents problem) → IsValid problem cert → cert.steps ≡ build.steps → searches.Decides problem cert.proof
-    → cert.proof ≡ proofs.Tree verdict tree → IfOk result (λ d. d.status ≡ answers.Refuted) → IfOk result (λ d. (contents : Contents) → PutsRefuted build block contents cert d)
-    → IfOk result (λ d. (contents : Contents) → ShowsContents catalog contents → IsDecision build block contents d.status d.outputs.items (string_bytes d.summary))
-refuted_decided build block catalog problem cert verdict tree (Err e) is valid steps decides refuted status puts = tt
-refuted_decided build block catalog problem cert verdicts.Refuted tree (Ok d) is valid steps decides refuted status puts = λ contents shows.
-    let put : PutsRefuted build block contents cert d = puts contents in
+pub refuted_decided : (options : Options) (block : Block) (catalog : Catalog) (problem : Problem) (cert : Cert) (verdict : Verdict) (tree : PickTree) (result : Result Decision NoMemory)
+    → ((contents : Contents) → ShowsContents catalog contents → IsProblem (part_of block.lines) contents problem) → IsValid problem cert → cert.steps ≡ options.steps → searches.Decides problem cert.proof
+    → cert.proof ≡ proofs.Tree verdict tree → IfOk result (λ d. d.status ≡ answers.Refuted) → IfOk result (λ d. (contents : Contents) → PutsRefuted options block contents cert d)
+    → IfOk result (λ d. (contents : Contents) → ShowsContents catalog contents → IsDecision options block contents d.status d.outputs.items (string_bytes d.summary))
+refuted_decided options block catalog problem cert verdict tree (Err e) is valid steps decides refuted status puts = tt
+refuted_decided options block catalog problem cert verdicts.Refuted tree (Ok d) is valid steps decides refuted status puts = λ contents shows.
+    let put : PutsRefuted options block contents cert d = puts contents in
     let none : problems.NoGood problem = subst (searches.Decides problem) refuted decides in
-    subst (λ s. IsDecision build block contents s d.outputs.items (string_bytes d.summary)) (sym status) (record {
+    subst (λ s. IsDecision options block contents s d.outputs.items (string_bytes d.summary)) (sym status) (record {
       none_good = no_good_pick (part_of block.lines) contents problem (is contents shows) none;
       list = put.list;
       list_is = put.list_is;
       cert = cert;
-      cert_is = record { problem = problem; is_problem = is contents shows; valid = valid; steps_are = steps };
+      cert_is = record { valid = record { problem = problem; is_problem = is contents shows; valid = valid }; steps_are = steps };
       tree = tree;
       proof = refuted;
       outputs_are = put.outputs_are;

@@ -1,9 +1,8 @@
 -- Small cases, worked by hand.
-use Rattle.std.proofs.Common.{◌≡◌, true, false, ◌&&◌, [], ◌∷◌, ◌++◌, ap, refl, arith}
+use Rattle.std.proofs.Common.{◌≡◌, [], ◌∷◌, ◌++◌, refl, arith}
 use Rattle.std.specs.Prelude.{ℕ, List, codes, Option, Some, None}
 use Rattle.std.specs.Fmt.{digits}
 use Rattle.ato_base.specs.declared.faults.FaultKind.TheVariants as kinds
-use Rattle.ato_base.specs.Names.{is_name}
 use Rattle.ato_lexer.specs.declared.first_form.Block.{Block}
 use Rattle.ato_base.specs.Classes.{no_class, a_class, no_point, related}
 use Rattle.ato_base.specs.Joined.{same, along, against}
@@ -18,11 +17,8 @@ use Rattle.ato_first.specs.FirstParts.{part_of, candidates}
 use Rattle.ato_catalog.specs.Rows.{PlainRow}
 use Rattle.ato_first.specs.FirstPoints.{IsJoinedByLine}
 use Rattle.ato_writers.specs.Netlists.{list_text, comp_text, net_text, node_text, field, quoted}
-use Rattle.ato_words.specs.PlainNames.{is_plain, is_put}
-use Rattle.ato_build.specs.Texts.{column_at, fault_text, place_in_text, word_text}
-use Rattle.ato_words.specs.Words.{IsBuild, line_of, is_read}
-use Rattle.ato_words.specs.declared.words.Build.{Build}
-use Rattle.ato_words.specs.declared.word_line.Turn.TheVariants.{Any, Positional}
+use Rattle.ato_build.specs.Texts.{column_at, fault_text, accepted_text, rejected_text, place_in_text, word_text}
+use Rattle.ato_build.specs.declared.project.Project.{Project}
 
 -- ---- a block with no pin
 
@@ -78,92 +74,34 @@ pub two_pins_netlist : list_text one_net ≡
 unfolding list_text comp_text net_text node_text field quoted digits
 two_pins_netlist = refl
 
--- ---- printed texts, names and words
+-- ---- printed texts
 
--- a build of main.ato
-abbrev main_build : Build
-main_build = record { file = codes "main.ato"; block = codes "T"; catalogue = codes "parts.csv"; out = codes "out"; steps = 20000 }
+-- a project of main.ato
+abbrev main_project : Project
+main_project = record { file = codes "main.ato"; block = codes "T"; catalogue = codes "parts.csv" }
 
 -- The entry file is not there.
-pub missing_file : fault_text main_build [] (word_fault kinds.FileMissing 1) ≡ codes "fault F8 FileMissing word 1\n"
+pub missing_file : fault_text main_project [] (word_fault kinds.FileMissing 1) ≡ codes "fault F8 FileMissing word 1\n"
 unfolding fault_text word_text digits
 missing_file = refl
 
 -- The second line begins with a tab, at byte 13.
-pub bad_line : fault_text main_build (codes "component T:\n\tpin 1\n") (syntax_fault entry_file 13) ≡ codes "fault F6 Syntax main.ato:2:1\n"
+pub bad_line : fault_text main_project (codes "component T:\n\tpin 1\n") (syntax_fault entry_file 13) ≡ codes "fault F6 Syntax main.ato:2:1\n"
 unfolding fault_text place_in_text digits
 bad_line = refl
 
--- A name in a folder is plain.
-pub in_folder : is_plain (codes "a/b.ato") ≡ true
-in_folder = refl
+-- The two texts of a check.
+pub accepted : accepted_text (codes "refuted") ≡ codes "accepted refuted\n"
+unfolding accepted_text
+accepted = refl
 
--- The empty name is not plain.
-pub empty_name : is_plain (codes "") ≡ false
-empty_name = refl
-
--- Nor is one with nothing between two slashes.
-pub two_slashes : is_plain (codes "a//b") ≡ false
-two_slashes = refl
-
--- Nor is one that leads out of its folder.
-pub folder_above : is_plain (codes "../x") ≡ false
-folder_above = refl
-
--- Nor is one with a backslash.
-pub backslash : is_plain (codes "a\\b") ≡ false
-backslash = refl
-
--- Nor is one that begins with the same folder.
-pub same_folder : is_plain (codes "./a") ≡ false
-same_folder = refl
-
--- Nor is one that ends in a slash.
-pub last_slash : is_plain (codes "a/") ≡ false
-last_slash = refl
+pub rejected : rejected_text 4 ≡ codes "rejected line 4\n"
+unfolding rejected_text digits
+rejected = refl
 
 -- A letter of two bytes is one column.
 pub two_bytes : column_at (97 ∷ 195 ∷ 169 ∷ 98 ∷ []) 3 ≡ 3
 two_bytes = refl
-
--- A build for `out` may put its netlist.
-pub own_netlist : is_put (codes "out") (codes "out.net") ≡ true
-own_netlist = refl
-
--- It does not put a file whose name only begins so.
-pub longer_name : is_put (codes "out") (codes "out.nets") ≡ false
-longer_name = refl
-
--- The words of the build of main.ato, since T is a name.
-pub main_words : is_name (codes "T") ≡ true → IsBuild (codes "build" ∷ codes "main.ato:T" ∷ codes "parts.csv" ∷ []) main_build
-main_words named = record {
-  read = refl;
-  of = record { words_are = refl; parts = ap (λ name. true && name && true && true && true && true) named; out_is = refl; plain = refl; steps = refl };
-}
-
--- An option may stand between positional words, and a dash after `--` makes no option.
-pub out_between : line_of (codes "build" ∷ codes "--out" ∷ codes "b" ∷ codes "--" ∷ codes "x" ∷ []) ≡ record { turn = Positional; positional = codes "build" ∷ codes "x" ∷ []; out = Some (codes "b") }
-out_between = refl
-
--- The value may stand behind the sign.
-pub out_joined : line_of (codes "--out=b/c" ∷ []) ≡ record { turn = Any; positional = []; out = Some (codes "b/c") }
-out_joined = refl
-
--- A value that is not there, one that begins with a dash, a second one, another option and a dash after `--` are refused.
-pub no_value : is_read (line_of (codes "x" ∷ codes "--out" ∷ [])).turn ≡ false
-no_value = refl
-
-pub dash_value : is_read (line_of (codes "--out" ∷ codes "--" ∷ [])).turn ≡ false
-dash_value = refl
-
-pub second_value : is_read (line_of (codes "--out=a" ∷ codes "--out=a" ∷ [])).turn ≡ false
-second_value = refl
-
-pub other_option : is_read (line_of (codes "--outer=a" ∷ [])).turn ≡ false
-other_option = refl
-
-pub late_dash : is_read (line_of (codes "--" ∷ codes "--" ∷ [])).turn ≡ false
-late_dash = refl
 
 -- ---- a part and its candidates
 

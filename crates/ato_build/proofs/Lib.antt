@@ -6,4 +6,8 @@ pub mod HeadlineLaws
 pub mod OutputLemmas
 pub mod PrintLemmas
 pub mod ProblemLemmas
+pub mod ReadingLemmas
+pub mod CheckLemmas
+pub mod OneProblemLaws
+pub mod BuiltCertificateLaws
 pub mod WithinLemmas

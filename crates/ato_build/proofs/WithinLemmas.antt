@@ -12,7 +12,7 @@ use Rattle.ato_build.specs.Entry.{StandsInEntry, IsLineFault}
 use Rattle.ato_first.specs.FirstPoints.{IsFirstLineAt}
 use Rattle.ato_build.specs.Found.{Whole}
 use Rattle.ato_build.specs.Texts.{LiesWithin}
-use Rattle.ato_words.specs.declared.words.Build.{Build}
+use Rattle.ato_build.specs.declared.project.Project.{Project}
 
 front_within : (front back : List Line) → length (lines_text front) ≤ length (lines_text (front ++ back))
 front_within front back = omega (arith, ap length (flat_map-append (λ l. lined (line_text l)) front back), length-append (lines_text front) (lines_text back))
@@ -35,10 +35,10 @@ line_fault_within source block f is (inl (at, unknown, same)) = subst (λ g. Lie
 line_fault_within source block f is (inr (known, (at, empty, same))) = subst (λ g. LiesWithin source g.at) (sym same) (line_within source _ block at is empty)
 
 -- A fault that stands in a whole entry lies in it.
-pub stands_within : (build : Build) (source : List ℕ) (f : Fault) → StandsInEntry build (Whole source) f → LiesWithin source f.at
-stands_within build source f (inl (at, bad, same)) = subst (λ g. LiesWithin source g.at) (sym same) (bad_within source at bad)
-stands_within build source f (inr (inl (lacks, same))) = subst (λ g. LiesWithin source g.at) (sym same) tt
-stands_within build source f (inr (inr (block, is, named, fault))) = line_fault_within source block f is fault
+pub stands_within : (project : Project) (source : List ℕ) (f : Fault) → StandsInEntry project (Whole source) f → LiesWithin source f.at
+stands_within project source f (inl (at, bad, same)) = subst (λ g. LiesWithin source g.at) (sym same) (bad_within source at bad)
+stands_within project source f (inr (inl (lacks, same))) = subst (λ g. LiesWithin source g.at) (sym same) tt
+stands_within project source f (inr (inr (block, is, named, fault))) = line_fault_within source block f is fault
 
 -- A fault in a cell needs no byte of the source.
 pub cell_within : (source : List ℕ) (f : Fault) → IsCellFault f → LiesWithin source f.at

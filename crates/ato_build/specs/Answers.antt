@@ -33,6 +33,12 @@ IsEnd answers.Built = Unit {0}
 IsEnd answers.Refuted = Unit {0}
 IsEnd status = ⊥
 
+-- A check ends so where all goes well.
+abbrev pub IsVerdict : Status → Type 0
+IsVerdict answers.Accepted = Unit {0}
+IsVerdict (answers.Rejected line) = Unit {0}
+IsVerdict status = ⊥
+
 -- A build ends so once its files are being put.
 abbrev pub IsPutStatus : Status → Type 0
 IsPutStatus answers.WriteFault = Unit {0}

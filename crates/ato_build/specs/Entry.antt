@@ -13,7 +13,7 @@ use Rattle.ato_lexer.specs.declared.first_form.Block.{Block}
 use Rattle.ato_first.specs.FirstPoints.{AreKnown, IsUnknownAt}
 use Rattle.ato_first.specs.FirstParts.{HasRanges, IsEmptyAt}
 use Rattle.ato_build.specs.Found.{Found, Missing, TooLong, Whole}
-use Rattle.ato_words.specs.declared.words.Build.{Build}
+use Rattle.ato_build.specs.declared.project.Project.{Project}
 
 -- The most bytes that a source file may have.
 abbrev pub source_limit : ℕ
@@ -47,23 +47,23 @@ IsLineFault block f =
     ⊎ (AreKnown block × ((at : ℕ) × IsEmptyAt block at × (f ≡ line_fault kinds.EmptyRange at)))
 
 -- The entry gives this block: it has the name, each name in its lines is known, and each range has a value.
-abbrev pub GivesBlock : Build → Found → Block → Type 0
-GivesBlock build Missing block = ⊥
-GivesBlock build TooLong block = ⊥
-GivesBlock build (Whole source) block = IsFile source (Some block) × (block.name ≡ build.block) × AreKnown block × HasRanges block
+abbrev pub GivesBlock : Project → Found → Block → Type 0
+GivesBlock project Missing block = ⊥
+GivesBlock project TooLong block = ⊥
+GivesBlock project (Whole source) block = IsFile source (Some block) × (block.name ≡ project.block) × AreKnown block × HasRanges block
 
 -- The fault stands in the entry: the file is missing (F8), too long (F9), not of the form (F6, at the first byte of the first
 -- line that is not), has no block of the name (F11), mentions a name that is not known (F15), or asserts a range without a
 -- value (F29).
-abbrev pub StandsInEntry : Build → Found → Fault → Type 0
-StandsInEntry build Missing f = f ≡ word_fault kinds.FileMissing 1
-StandsInEntry build TooLong f = f ≡ word_fault kinds.FileTooLong 1
-StandsInEntry build (Whole source) f =
+abbrev pub StandsInEntry : Project → Found → Fault → Type 0
+StandsInEntry project Missing f = f ≡ word_fault kinds.FileMissing 1
+StandsInEntry project TooLong f = f ≡ word_fault kinds.FileTooLong 1
+StandsInEntry project (Whole source) f =
     ((at : ℕ) × IsBad source at × (f ≡ syntax_fault entry_file at))
-    ⊎ (LacksBlock source build.block × (f ≡ word_fault kinds.NameUnknown 1))
-    ⊎ ((block : Block) × IsFile source (Some block) × (block.name ≡ build.block) × IsLineFault block f)
+    ⊎ (LacksBlock source project.block × (f ≡ word_fault kinds.NameUnknown 1))
+    ⊎ ((block : Block) × IsFile source (Some block) × (block.name ≡ project.block) × IsLineFault block f)
 
 -- Why the entry gives no block: a fault that stands, or want of memory.
-abbrev pub IsRefused : Build → Found → Refusal → Type 0
-IsRefused build entry (refusals.Fault f) = StandsInEntry build entry f
-IsRefused build entry refusals.NoMemory = Unit {0}
+abbrev pub IsRefused : Project → Found → Refusal → Type 0
+IsRefused project entry (refusals.Fault f) = StandsInEntry project entry f
+IsRefused project entry refusals.NoMemory = Unit {0}

@@ -1,8 +1,11 @@
 pub mod Headline
 pub mod Found
 pub mod Entry
+pub mod Projects
 pub mod Input
 pub mod Outputs
+pub mod Judgements
+pub mod BuiltCertificates
 pub mod Decisions
 pub mod DecisionParts
 pub mod CatalogueRows
@@ -12,4 +15,5 @@ pub mod Texts
 pub mod Printing
 pub mod Answers
 pub mod Causes
+pub mod Readings
 pub mod Status

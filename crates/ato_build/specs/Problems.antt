@@ -33,9 +33,13 @@ IsSlotFor (Some part) contents (Some slot) = IsSlotOf contents part slot
 abbrev pub IsProblem : Option Part → Contents → Problem → Type 0
 IsProblem part contents problem = IsSlotFor part contents problem.slot
 
--- The certificate is valid for the problem of the part and the catalogue, and has these steps.
-pub record IsCertificate (part : Option Part) (contents : Contents) (steps : ℕ) (cert : Cert) : Type 0 where
+-- The certificate is valid for the problem of the part and the catalogue.
+pub record IsValidFor (part : Option Part) (contents : Contents) (cert : Cert) : Type 0 where
   pub problem : Problem
   pub is_problem : IsProblem part contents problem
   pub valid : IsValid problem cert
+
+-- It also has these steps.
+pub record IsCertificate (part : Option Part) (contents : Contents) (steps : ℕ) (cert : Cert) : Type 0 where
+  pub valid : IsValidFor part contents cert
   pub steps_are : cert.steps ≡ steps

@@ -6,7 +6,7 @@ use Rattle.ato_base.specs.declared.faults.Fault.{Fault}
 use Rattle.ato_base.specs.declared.nets.NetList.{NetList}
 use Rattle.ato_base.specs.declared.places.Place.{Place}
 use Rattle.ato_base.specs.declared.places.Place.TheVariants as places
-use Rattle.ato_words.specs.declared.words.Build.{Build}
+use Rattle.ato_build.specs.declared.project.Project.{Project}
 use Rattle.ato_build.specs.declared.answer.Said.{Said}
 use Rattle.ato_build.specs.declared.answer.Said.TheVariants as said
 
@@ -30,15 +30,15 @@ unfoldable pub word_text : ℕ → List ℕ
 word_text word = codes "word " ++ decimal word
 
 -- a place: in the source, in the catalogue, or at a word
-abbrev pub place_text : Build → List ℕ → Place → List ℕ
-place_text build source (places.Source span) = place_in_text build.file (line_at source span.start) (column_at source span.start)
-place_text build source (places.Cell row column) = place_in_text build.catalogue row column
-place_text build source (places.Word word) = word_text word
+abbrev pub place_text : Project → List ℕ → Place → List ℕ
+place_text project source (places.Source span) = place_in_text project.file (line_at source span.start) (column_at source span.start)
+place_text project source (places.Cell row column) = place_in_text project.catalogue row column
+place_text project source (places.Word word) = word_text word
 
 -- the line of a fault. No fault has a second place or a path yet.
-unfoldable pub fault_text : Build → List ℕ → Fault → List ℕ
-fault_text build source f =
-    codes "fault F" ++ (decimal (kind_number f.kind) ++ (codes " " ++ (kind_name f.kind ++ (codes " " ++ (place_text build source f.at ++ codes "\n")))))
+unfoldable pub fault_text : Project → List ℕ → Fault → List ℕ
+fault_text project source f =
+    codes "fault F" ++ (decimal (kind_number f.kind) ++ (codes " " ++ (kind_name f.kind ++ (codes " " ++ (place_text project source f.at ++ codes "\n")))))
 
 -- what is printed of a verdict: how many nets and parts the net list has
 unfoldable pub verdict_text : List ℕ → NetList → List ℕ
@@ -66,6 +66,14 @@ memory_text = codes "out of memory\n"
 
 abbrev pub usage_text : List ℕ
 usage_text = codes "usage: ato build ENTRY CATALOGUE [--steps N] [--out NAME]\n       ato check ENTRY CATALOGUE CERT\n"
+
+-- a certificate that is valid, with its verdict
+unfoldable pub accepted_text : List ℕ → List ℕ
+accepted_text verdict = codes "accepted " ++ (verdict ++ codes "\n")
+
+-- a certificate that is none, or is not valid, with a line of it
+unfoldable pub rejected_text : ℕ → List ℕ
+rejected_text line = codes "rejected line " ++ (decimal line ++ codes "\n")
 
 -- what is printed
 abbrev pub said_text : Said → List ℕ

@@ -13,10 +13,11 @@ ghost use Rattle.ato_build.specs.DecisionParts.{PutsBuilt, PutsRefuted};
 ghost use Rattle.ato_first.specs.FirstParts.{part_of, slot_count, HasRanges, comp_value};
 ghost use Rattle.ato_first.specs.FirstPoints.{AreKnown};
 
+use crate::Status;
 use crate::outputs::Output;
 use crate::problems::problem_of;
+use crate::project::Options;
 use crate::texts::summary_text;
-use crate::{Build, Status};
 use ato_base::{List, NetList, NoMemory, Text};
 use ato_catalog::{Catalog, CatalogRow};
 use ato_cert::{Cert, Proof, cert_text, nodes};
@@ -67,20 +68,20 @@ fn slot_count(block: &Block) -> usize
 }
 
 /// The netlist's file.
-fn net_output(alloc: Global, build: &Build, list: &NetList) -> Result<Output, NoMemory>
-    ensures { IfOk result (λ output. output ≡ net_output build.now list.now) }
+fn net_output(alloc: Global, options: &Options, list: &NetList) -> Result<Output, NoMemory>
+    ensures { IfOk result (λ output. output ≡ net_output options.now list.now) }
 {
-    let out = build.out.as_str();
+    let out = options.out.as_str();
     let name = Text::from_string(format!(in alloc; "{out}.net")?);
     let bytes = net_text(alloc, list)?;
     Ok(Output { name, bytes })
 }
 
 /// The certificate's file.
-fn cert_output(alloc: Global, build: &Build, cert: &Cert) -> Result<Output, NoMemory>
-    ensures { IfOk result (λ output. output ≡ cert_output build.now cert.now) }
+fn cert_output(alloc: Global, options: &Options, cert: &Cert) -> Result<Output, NoMemory>
+    ensures { IfOk result (λ output. output ≡ cert_output options.now cert.now) }
 {
-    let out = build.out.as_str();
+    let out = options.out.as_str();
     let name = Text::from_string(format!(in alloc; "{out}.cert")?);
     let bytes = cert_text(alloc, cert)?;
     Ok(Output { name, bytes })
@@ -89,31 +90,31 @@ fn cert_output(alloc: Global, build: &Build, cert: &Cert) -> Result<Output, NoMe
 /// What is put for a good pick: the netlist with it, and its certificate.
 fn built_outputs(
     alloc: Global,
-    build: &Build,
+    options: &Options,
     list: &NetList,
     cert: &Cert,
 ) -> Result<Vec<Output>, NoMemory>
-    ensures { IfOk result (λ outputs. outputs.items ≡ net_output build.now list.now ∷ cert_output build.now cert.now ∷ []) }
+    ensures { IfOk result (λ outputs. outputs.items ≡ net_output options.now list.now ∷ cert_output options.now cert.now ∷ []) }
 {
     let mut outputs = Vec::new(alloc);
-    outputs.push(net_output(alloc, build, list)?)?;
-    outputs.push(cert_output(alloc, build, cert)?)?;
+    outputs.push(net_output(alloc, options, list)?)?;
+    outputs.push(cert_output(alloc, options, cert)?)?;
     Ok(outputs)
 }
 
 /// What is put where no pick is good: the certificate.
-fn refuted_outputs(alloc: Global, build: &Build, cert: &Cert) -> Result<Vec<Output>, NoMemory>
-    ensures { IfOk result (λ outputs. outputs.items ≡ cert_output build.now cert.now ∷ []) }
+fn refuted_outputs(alloc: Global, options: &Options, cert: &Cert) -> Result<Vec<Output>, NoMemory>
+    ensures { IfOk result (λ outputs. outputs.items ≡ cert_output options.now cert.now ∷ []) }
 {
     let mut outputs = Vec::new(alloc);
-    outputs.push(cert_output(alloc, build, cert)?)?;
+    outputs.push(cert_output(alloc, options, cert)?)?;
     Ok(outputs)
 }
 
 /// The decision for a good pick.
 fn build_pick(
     alloc: Global,
-    build: &Build,
+    options: &Options,
     block: &Block,
     catalog: &Catalog,
     pick: &[u32],
@@ -123,14 +124,14 @@ fn build_pick(
     requires known { AreKnown block.now }
     requires few { counting.nodes cert.now.proof < 2 ^ 32 }
     ensures status { IfOk result (λ decision. decision.status ≡ Status.Built) }
-    ensures made { IfOk result (λ decision. (contents : Contents) → ShowsContents catalog.now contents → PutsBuilt build.now block.now contents pick.now cert.now decision) }
+    ensures made { IfOk result (λ decision. (contents : Contents) → ShowsContents catalog.now contents → PutsBuilt options.now block.now contents pick.now cert.now decision) }
 {
     let slots = slot_count(block);
     let list = list_of(alloc, block, comp_value(block, catalog, pick), slots)?;
     let summary = summary_text(alloc, "built", &list, slots, nodes(cert))?;
     Ok(Decision {
         status: Status::Built,
-        outputs: built_outputs(alloc, build, &list, cert)?,
+        outputs: built_outputs(alloc, options, &list, cert)?,
         summary,
     })
 }
@@ -138,7 +139,7 @@ fn build_pick(
 /// The decision where no pick is good.
 fn refute_picks(
     alloc: Global,
-    build: &Build,
+    options: &Options,
     block: &Block,
     cert: &Cert,
 ) -> Result<Decision, NoMemory>
@@ -146,14 +147,14 @@ fn refute_picks(
     requires known { AreKnown block.now }
     requires few { counting.nodes cert.now.proof < 2 ^ 32 }
     ensures status { IfOk result (λ decision. decision.status ≡ Status.Refuted) }
-    ensures made { IfOk result (λ decision. (contents : Contents) → PutsRefuted build.now block.now contents cert.now decision) }
+    ensures made { IfOk result (λ decision. (contents : Contents) → PutsRefuted options.now block.now contents cert.now decision) }
 {
     let slots = slot_count(block);
     let list = list_of(alloc, block, block.name.as_str(), slots)?;
     let summary = summary_text(alloc, "refuted", &list, slots, nodes(cert))?;
     Ok(Decision {
         status: Status::Refuted,
-        outputs: refuted_outputs(alloc, build, cert)?,
+        outputs: refuted_outputs(alloc, options, cert)?,
         summary,
     })
 }
@@ -161,25 +162,25 @@ fn refute_picks(
 /// Decides a block with a catalogue: the first good pick, or that there is none.
 pub(crate) fn decide(
     alloc: Global,
-    build: &Build,
+    options: &Options,
     block: &Block,
     catalog: &Catalog,
 ) -> Result<Decision, NoMemory>
     requires form { list_all is_line block.now.lines ≡ true }
     requires known { AreKnown block.now }
     requires ranges { HasRanges block.now }
-    requires steps { build.now.steps ≡ 20000 }
+    requires steps { options.now.steps ≡ 20000 }
     requires made { IsWellMade catalog.now }
     ensures end { IfOk result (λ decision. IsEnd decision.status) }
     ensures decision { IfOk result (λ decision. (contents : Contents) → ShowsContents catalog.now contents
-        → IsDecision build.now block.now contents decision.status decision.outputs.items (string_bytes decision.summary)) }
+        → IsDecision options.now block.now contents decision.status decision.outputs.items (string_bytes decision.summary)) }
 {
     let problem = problem_of(alloc, part_of(block.lines.as_slice()), catalog)?;
-    let cert = search(alloc, &problem, build.steps)?;
+    let cert = search(alloc, &problem, options.steps)?;
     match &cert.proof {
         Proof::Built { pick, .. } => {
-            build_pick(alloc, build, block, catalog, pick.as_slice(), &cert)
+            build_pick(alloc, options, block, catalog, pick.as_slice(), &cert)
         }
-        Proof::Tree { .. } => refute_picks(alloc, build, block, &cert),
+        Proof::Tree { .. } => refute_picks(alloc, options, block, &cert),
     }
 }

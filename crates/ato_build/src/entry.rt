@@ -6,7 +6,7 @@ ghost use Rattle.ato_first.specs.FirstParts.{HasRanges};
 ghost use Rattle.ato_build.specs.Found.{Whole};
 ghost use Rattle.ato_build.specs.Entry.{word_fault, line_fault, source_limit, GivesBlock, IsLineFault, IsRefused};
 
-use crate::Build;
+use crate::project::Project;
 use ato_base::{Fault, FaultKind, FileId, List, NameTable, NoMemory, Place, Refusal, Span};
 use ato_first::{empty_line, read_block, unknown_line};
 use ato_lexer::{Block, lex};
@@ -58,18 +58,18 @@ fn first_fault(alloc: Global, block: &Block) -> Result<Option<Fault>, NoMemory>
     }
 }
 
-/// The block that a build asks for, in the source of its entry file.
-pub(crate) fn block_of(alloc: Global, build: &Build, source: &[u8]) -> Result<Block, Refusal>
+/// The block that a project names, in the source of its entry file.
+pub(crate) fn block_of(alloc: Global, project: &Project, source: &[u8]) -> Result<Block, Refusal>
     requires { length source.now ≤ source_limit }
-    ensures gives { IfOk result (GivesBlock build.now (Whole source.now)) }
-    ensures refused { IfErr result (IsRefused build.now (Whole source.now)) }
+    ensures gives { IfOk result (GivesBlock project.now (Whole source.now)) }
+    ensures refused { IfErr result (IsRefused project.now (Whole source.now)) }
 {
     let mut names = NameTable::new(alloc)?;
     let tokens = lex(alloc, source, ENTRY_FILE, &mut names)?;
     let Some(block) = read_block(alloc, source, tokens.as_slice())? else {
         return Err(Refusal::Fault(word_fault(alloc, FaultKind::NameUnknown, 1)));
     };
-    if block.name.as_str() != build.block.as_str() {
+    if block.name.as_str() != project.block.as_str() {
         return Err(Refusal::Fault(word_fault(alloc, FaultKind::NameUnknown, 1)));
     }
     match first_fault(alloc, &block)? {

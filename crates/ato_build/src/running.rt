@@ -2,19 +2,29 @@ ghost use Rattle.std.specs.Prelude.{◌≡◌, ◌≢◌, ◌<◌, ◌≤◌, �
 ghost use Rattle.ato_base.specs.declared.faults.Fault.{Fault};
 ghost use Rattle.ato_base.specs.declared.faults.FaultKind.TheVariants as kinds;
 ghost use Rattle.ato_lexer.specs.declared.first_form.Block.{Block};
-ghost use Rattle.ato_outside.specs.Causes.{Rose};
-ghost use Rattle.ato_build.specs.Headline.{Headline, IsToldWriteFault};
-ghost use Rattle.ato_words.specs.Words.{texts, IsBuild, IsNoJob};
-ghost use Rattle.ato_build.specs.Causes.{EndsOutside};
 ghost use Rattle.ato_catalog.specs.Contents.{Contents};
+ghost use Rattle.ato_cert.specs.Texts.{cert_text};
+ghost use Rattle.ato_cert.specs.declared.cert.Cert.{Cert};
 ghost use Rattle.ato_first.specs.FirstParts.{part_of, IsGoodPick, NoGoodPick};
-ghost use Rattle.ato_build.specs.Input.{input_of, Gives, Stands};
+ghost use Rattle.ato_outside.specs.Causes.{Rose};
+ghost use Rattle.ato_words.specs.Words.{texts, IsBuild, IsCheck, IsJob, IsNoJob};
 ghost use Rattle.ato_words.specs.declared.words.Build.{Build};
+ghost use Rattle.ato_words.specs.declared.words.Check.{Check};
+ghost use Rattle.ato_words.specs.declared.words.Task.{Task};
+ghost use Rattle.ato_words.specs.declared.words.Task.TheVariants as tasks;
+ghost use Rattle.ato_build.specs.BuiltCertificates.{IsBuiltCertificate};
+ghost use Rattle.ato_build.specs.Causes.{EndsOutside, IsDone, IsRejected};
+ghost use Rattle.ato_build.specs.Found.{Whole};
+ghost use Rattle.ato_build.specs.Headline.{Headline, IsToldWriteFault};
+ghost use Rattle.ato_build.specs.Input.{input_of, certificate_of, Gives, Stands};
+ghost use Rattle.ato_build.specs.Judgements.{IsNoCertificate};
+ghost use Rattle.ato_build.specs.Problems.{IsValidFor};
+ghost use Rattle.ato_build.specs.Projects.{built_project, checked_project};
 
 use crate::Status;
 use crate::answer::Answer;
-use crate::build::settle;
 use crate::printing::say;
+use crate::settling::settle;
 use ato_outside::{Shelf, Sink, Tray};
 use std::alloc::Global;
 
@@ -56,20 +66,34 @@ pub fn run<S: Shelf, T: Tray, O: Sink>(
 
     // Where memory and the outside do not fail, the words and the files decide the answer.
     ensures usage_where { IsNoJob (texts words.now.items) → (result ≡ Status.Usage) ⊎ (result ≡ Status.NoMemory) ⊎ (result ≡ Status.WriteFault) }
-    ensures fault_where { IfSome (S.files shelf.old) (λ files. (build : Build) (f : Fault) → IsBuild (texts words.now.items) build
-        → Stands build (input_of files build) f → (result ≡ Status.Fault f) ⊎ EndsOutside result) }
+    ensures fault_where { IfSome (S.files shelf.old) (λ files. (task : Task) (f : Fault) → IsJob (texts words.now.items) task
+        → Stands task (input_of files task) f → (result ≡ Status.Fault f) ⊎ EndsOutside result) }
     ensures built_where { IfSome (S.files shelf.old) (λ files. (build : Build) (block : Block) (contents : Contents) (pick : List ℕ)
-        → IsBuild (texts words.now.items) build → Gives build (input_of files build) block contents
+        → IsBuild (texts words.now.items) build → Gives (built_project build) (input_of files (tasks.Build build)) block contents
         → IsGoodPick (part_of block.lines) contents pick → (result ≡ Status.Built) ⊎ EndsOutside result) }
     ensures refuted_where { IfSome (S.files shelf.old) (λ files. (build : Build) (block : Block) (contents : Contents)
-        → IsBuild (texts words.now.items) build → Gives build (input_of files build) block contents
+        → IsBuild (texts words.now.items) build → Gives (built_project build) (input_of files (tasks.Build build)) block contents
         → NoGoodPick (part_of block.lines) contents → (result ≡ Status.Refuted) ⊎ EndsOutside result) }
 
-    // Where no fault stands and nothing outside failed in this call, a job is decided.
-    ensures complete { IfSome (S.files shelf.old) (λ files. (build : Build) → IsBuild (texts words.now.items) build
-        → ((f : Fault) → ¬ Stands build (input_of files build) f)
+    // The text of a valid certificate is accepted, whoever wrote it, and other bytes are rejected.
+    ensures accepted_where { IfSome (S.files shelf.old) (λ files. (check : Check) (block : Block) (contents : Contents) (cert : Cert)
+        → IsCheck (texts words.now.items) check → Gives (checked_project check) (input_of files (tasks.Check check)) block contents
+        → certificate_of files (tasks.Check check) ≡ Whole (cert_text cert) → IsValidFor (part_of block.lines) contents cert
+        → (result ≡ Status.Accepted) ⊎ EndsOutside result) }
+    ensures rejected_where { IfSome (S.files shelf.old) (λ files. (check : Check) (block : Block) (contents : Contents) (bytes : List ℕ)
+        → IsCheck (texts words.now.items) check → Gives (checked_project check) (input_of files (tasks.Check check)) block contents
+        → certificate_of files (tasks.Check check) ≡ Whole bytes → IsNoCertificate (part_of block.lines) contents bytes
+        → IsRejected result ⊎ EndsOutside result) }
+
+    // What a build puts as its certificate a check of the same project accepts.
+    ensures built_accepted { IfSome (S.files shelf.old) (λ files. (check : Check) → IsCheck (texts words.now.items) check
+        → IsBuiltCertificate files check → (result ≡ Status.Accepted) ⊎ EndsOutside result) }
+
+    // Where no fault stands and nothing outside failed in this call, a job is done.
+    ensures complete { IfSome (S.files shelf.old) (λ files. (task : Task) → IsJob (texts words.now.items) task
+        → ((f : Fault) → ¬ Stands task (input_of files task) f)
         → ¬ Rose (S.faults shelf.old) (S.faults shelf.new) → ¬ Rose (T.faults tray.old) (T.faults tray.new) → ¬ Rose (O.faults out.old) (O.faults out.new)
-        → (result ≡ Status.Built) ⊎ (result ≡ Status.Refuted) ⊎ (result ≡ Status.NoMemory)) }
+        → IsDone task result ⊎ (result ≡ Status.NoMemory)) }
 
     // What never fails is never named.
     ensures sure_shelf { ((s : S) → S.faults s ≡ 0) → result ≢ Status.ReadFault }

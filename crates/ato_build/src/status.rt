@@ -8,6 +8,8 @@ use ato_base::Fault;
 pub enum Status {
     /// A good pick was found. The netlist with it and its certificate stand in the tray.
     Built,
+    /// The certificate is valid.
+    Accepted,
     /// A fault stands in the input.
     Fault(Fault),
     /// No pick is good. The certificate of this stands in the tray.
@@ -20,6 +22,8 @@ pub enum Status {
     Usage,
     /// Memory ran out.
     NoMemory,
+    /// The bytes are no valid certificate. The number is that of their first bad line, from 1.
+    Rejected(u32),
 }
 
 impl Status {
@@ -29,12 +33,14 @@ impl Status {
     {
         match self {
             Status::Built => 0,
+            Status::Accepted => 0,
             Status::Fault(_) => 1,
             Status::Refuted => 2,
             Status::ReadFault => 5,
             Status::WriteFault => 6,
             Status::Usage => 7,
             Status::NoMemory => 8,
+            Status::Rejected(_) => 9,
         }
     }
 }

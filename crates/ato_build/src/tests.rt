@@ -1,3 +1,4 @@
+mod checks;
 mod failures;
 mod parts;
 

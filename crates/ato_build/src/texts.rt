@@ -1,7 +1,7 @@
 ghost use Rattle.std.specs.Prelude.{◌≡◌, ◌≤◌, IfOk, length, string_bytes};
-ghost use Rattle.ato_build.specs.Texts.{line_at, begins_char, column_at, place_in_text, word_text, place_text, fault_text, verdict_text, problem_text, summary_text, read_fault_text, usage_text, LiesWithin};
+ghost use Rattle.ato_build.specs.Texts.{line_at, begins_char, column_at, place_in_text, word_text, place_text, fault_text, verdict_text, problem_text, summary_text, read_fault_text, accepted_text, rejected_text, usage_text, LiesWithin};
 
-use crate::Build;
+use crate::project::Project;
 use ato_base::{Fault, NetList, NoMemory, Place};
 use std::alloc::Global;
 
@@ -50,23 +50,23 @@ fn word_text(alloc: Global, word: u32) -> Result<String, NoMemory>
 
 fn place_text(
     alloc: Global,
-    build: &Build,
+    project: &Project,
     source: &[u8],
     place: &Place,
 ) -> Result<String, NoMemory>
     requires { LiesWithin source.now place.now }
-    ensures { IfOk result (λ text. string_bytes text ≡ place_text build.now source.now place.now) }
+    ensures { IfOk result (λ text. string_bytes text ≡ place_text project.now source.now place.now) }
 {
     match place {
         Place::Source(span) => {
             let at = span.start as usize;
             let row = line_at(source, at);
             let column = column_at(source, at);
-            place_in_text(alloc, build.file.as_str(), row, column)
+            place_in_text(alloc, project.file.as_str(), row, column)
         }
         Place::Cell { row, column } => place_in_text(
             alloc,
-            build.catalogue.as_str(),
+            project.catalogue.as_str(),
             *row as usize,
             *column as usize,
         ),
@@ -78,16 +78,16 @@ fn place_text(
 #[tactic(auto, unfolding(crate::specs::Texts::fault_text))]
 pub(crate) fn fault_text(
     alloc: Global,
-    build: &Build,
+    project: &Project,
     source: &[u8],
     fault: &Fault,
 ) -> Result<String, NoMemory>
     requires { LiesWithin source.now fault.now.at }
-    ensures { IfOk result (λ text. string_bytes text ≡ fault_text build.now source.now fault.now) }
+    ensures { IfOk result (λ text. string_bytes text ≡ fault_text project.now source.now fault.now) }
 {
     let number = fault.kind.number();
     let name = fault.kind.name();
-    let place = place_text(alloc, build, source, &fault.at)?;
+    let place = place_text(alloc, project, source, &fault.at)?;
     let place = place.as_str();
     Ok(format!(in alloc; "fault F{number} {name} {place}\n")?)
 }
@@ -135,6 +135,22 @@ pub(crate) fn read_fault_text(alloc: Global, file: &str) -> Result<String, NoMem
     ensures { IfOk result (λ text. string_bytes text ≡ read_fault_text file.now) }
 {
     Ok(format!(in alloc; "read fault {file}\n")?)
+}
+
+/// The line for a valid certificate with this verdict.
+#[tactic(auto, unfolding(crate::specs::Texts::accepted_text))]
+pub(crate) fn accepted_text(alloc: Global, verdict: &str) -> Result<String, NoMemory>
+    ensures { IfOk result (λ text. string_bytes text ≡ accepted_text verdict.now) }
+{
+    Ok(format!(in alloc; "accepted {verdict}\n")?)
+}
+
+/// The line for bytes that are no valid certificate, with their first bad line.
+#[tactic(auto, unfolding(crate::specs::Texts::rejected_text))]
+pub(crate) fn rejected_text(alloc: Global, line: u32) -> Result<String, NoMemory>
+    ensures { IfOk result (λ text. string_bytes text ≡ rejected_text line) }
+{
+    Ok(format!(in alloc; "rejected line {line}\n")?)
 }
 
 /// How the program is called.

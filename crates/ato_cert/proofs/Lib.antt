@@ -8,3 +8,4 @@ pub mod Soundness
 pub mod TreeLemmas
 pub mod TreeReading
 pub mod WholeReading
+pub mod WritableLaws

@@ -32,3 +32,11 @@ HasAtMostOf n (Some slot) = length slot.rows ≤ n
 -- there are at most n candidates
 abbrev pub HasAtMost : ℕ → Problem → Type 0
 HasAtMost n problem = HasAtMostOf n problem.slot
+
+abbrev pub HasNumbersBelowOf : ℕ → Option Slot → Type 0
+HasNumbersBelowOf n None = Unit {0}
+HasNumbersBelowOf n (Some slot) = All (λ row. row.number < n) slot.rows
+
+-- the candidates' numbers are below n
+abbrev pub HasNumbersBelow : ℕ → Problem → Type 0
+HasNumbersBelow n problem = HasNumbersBelowOf n problem.slot

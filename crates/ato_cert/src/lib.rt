@@ -7,7 +7,8 @@
 //! specs/Good.antt what picks have to be, and `valid_is_sound` has the law between them as its
 //! contract: whoever wrote a valid certificate, what it says is so. The text is `cert_text` of
 //! specs/Texts.antt, and `IsReadable` of specs/Readable.antt says which certificates have a text that
-//! is read. Certificates are found by `ato_search` and checked by `ato_check`.
+//! is read, which each valid one of at most 10,000 candidates
+//! has (`valid_is_writable`). Certificates are found by `ato_search` and checked by `ato_check`.
 #![tactic(auto)]
 
 mod cert;
@@ -35,7 +36,7 @@ pub use comparing::is_at_most;
 pub use counting::nodes;
 pub use entry::read_cert;
 pub use halving::halves;
-pub use laws::valid_is_sound;
+pub use laws::{valid_is_sound, valid_is_writable};
 pub use problem::{Problem, Row, Slot};
 pub use refusal::CertRefusal;
 pub use writing::cert_text;

@@ -1,6 +1,6 @@
 use crate::{
     CertRefusal, Problem, Row, Slot, cert_text, halves, is_at_most, nodes, read_cert,
-    valid_is_sound,
+    valid_is_sound, valid_is_writable,
 };
 use ato_base::{List, NoMemory};
 use ato_frac::{Exact, Frac};
@@ -203,6 +203,7 @@ fn nodes_of_text(alloc: Global, text: &[u8], problem: &Problem) -> Result<u32, N
 fn nodes_are_lines_of_trees_and_of_boxes(rt: HostRuntime) -> Result<(), Fail> {
     let alloc = rt.alloc();
     valid_is_sound();
+    valid_is_writable();
     let problem = problem_of(alloc, [(1, 1, 3), (2, 2, 2)].as_slice(), (2, 4))?;
     for (word, proof, count) in [
         ("built", "pick 2\ncheck 1\nholds\nend\n", 1),

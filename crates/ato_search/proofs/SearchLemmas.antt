@@ -13,7 +13,7 @@ use Rattle.ato_cert.specs.declared.cert.PickTree.TheVariants as tree
 use Rattle.ato_cert.specs.declared.cert.BoxTree.TheVariants.{Holds}
 use Rattle.ato_cert.specs.declared.cert.Verdict.TheVariants.{Refuted}
 use Rattle.ato_cert.specs.declared.cert.Proof.TheVariants.{Built, Tree}
-use Rattle.ato_cert.specs.Problems.{AreRising, IsWellMadeSlot}
+use Rattle.ato_cert.specs.Problems.{IsWellMadeSlot}
 use Rattle.ato_cert.specs.Good.{IsGoodRow}
 use Rattle.ato_cert.specs.Selection.{FailsAt}
 use Rattle.ato_cert.specs.Justified.{empty, by_row, fails, LiesInTarget}

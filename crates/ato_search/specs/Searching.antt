@@ -1,5 +1,5 @@
 -- What the parts of the search give.
-use Rattle.std.specs.Prelude.{◌≡◌, ℕ, ◌+◌, ◌-◌, ◌*◌, ◌<◌, ◌≤◌, List, ◌∷◌, ◌++◌, length, Some}
+use Rattle.std.specs.Prelude.{◌≡◌, ℕ, ◌+◌, ◌-◌, ◌*◌, ◌≤◌, List, ◌∷◌, ◌++◌, length, Some}
 use Rattle.std.specs.List.{All}
 use Rattle.ato_cert.specs.declared.problem.Row.{Row}
 use Rattle.ato_cert.specs.declared.problem.Slot.{Slot}

@@ -1,3 +1,4 @@
 pub mod PlainNameLemmas
 pub mod WordLaws
 pub mod WordLemmas
+pub mod Examples

@@ -1,20 +1,19 @@
--- The words of a build determine it.
-use Rattle.std.proofs.Common.{◌≡◌, ℕ, ◌==◌, Bool, true, false, not, ◌||◌, ◌&&◌, List, [], ◌∷◌, ◌++◌, ap, sym, ◌∙◌, refl, arith}
+-- The words of a task determine it.
+use Rattle.std.proofs.Common.{◌≡◌, ℕ, ◌==◌, true, false, ◌||◌, List, [], ◌∷◌, ◌++◌, ap, sym, ◌∙◌, refl, arith}
 use Rattle.std.specs.Prelude.{codes, unwrap_or}
 use Rattle.std.specs.List.{list_any}
-use Rattle.std.proofs.lemmas.Bool.{and_parts}
-use Rattle.ato_words.specs.Words.{are_parts, IsBuildOf, IsBuild, line_of, default_out}
+use Rattle.std.proofs.lemmas.Bool.{and_parts, not-true}
+use Rattle.ato_words.specs.Words.{is_entry, IsBuildOf, IsBuild, IsCheckOf, IsCheck, IsJob, line_of, default_out}
 use Rattle.ato_words.specs.declared.words.Build.{Build}
-
-not_true : (a : Bool) → not a ≡ true → a ≡ false
-not_true true h = let bad : ⊥ = cc in absurd bad
-not_true false h = refl
+use Rattle.ato_words.specs.declared.words.Check.{Check}
+use Rattle.ato_words.specs.declared.words.Task.{Task}
+use Rattle.ato_words.specs.declared.words.Task.TheVariants as tasks
 
 eq_self : (c : ℕ) → (c == c) ≡ true
 eq_self c = grind arith
 
 -- a byte stands where it stands
-pub has : (c : ℕ) (x y : List ℕ) → list_any (λ n. n == c) (x ++ c ∷ y) ≡ true
+has : (c : ℕ) (x y : List ℕ) → list_any (λ n. n == c) (x ++ c ∷ y) ≡ true
 has c [] y = rw (eq_self c) refl
 has c (u ∷ x) y = rw (has c x y) (elim (u == c) as (λ b. (b || true) ≡ true) [ true ↦ refl | false ↦ refl ])
 
@@ -31,14 +30,17 @@ one_cut c (v ∷ a) b (u ∷ x) y e p q =
     let heads : v ≡ u = cc in let tails : a ++ c ∷ b ≡ x ++ c ∷ y = cc in
     let rest = one_cut c a b x y tails p q in (cc, rest.1)
 
--- a block of parts has no colon
-block_lacks : (out file block catalogue : List ℕ) → are_parts out file block catalogue ≡ true → list_any (λ b. b == 58) block ≡ false
-block_lacks out file block catalogue h =
-    not_true _ (and_parts _ _ (and_parts _ _ (and_parts _ _ (and_parts _ _ h).0).0).0).1
+-- an entry's block has no colon
+block_lacks : (file block : List ℕ) → is_entry file block ≡ true → list_any (λ b. b == 58) block ≡ false
+block_lacks file block h = not-true _ (and_parts _ _ h).1
 
--- the parts of an entry at its last colon
-pub same_parts : (out file block f b catalogue : List ℕ) → file ++ 58 ∷ block ≡ f ++ 58 ∷ b → list_any (λ n. n == 58) b ≡ false → are_parts out file block catalogue ≡ true → (file ≡ f) × (block ≡ b)
-same_parts out file block f b catalogue e none h = one_cut 58 file block f b e (block_lacks out file block catalogue h) none
+-- an entry is divided at its last colon
+pub same_parts : (file block f b : List ℕ) → file ++ 58 ∷ block ≡ f ++ 58 ∷ b → list_any (λ n. n == 58) b ≡ false → is_entry file block ≡ true → (file ≡ f) × (block ≡ b)
+same_parts file block f b e none h = one_cut 58 file block f b e (block_lacks file block h) none
+
+-- two entries with one text are the same
+pub same_entries : (file block f b : List ℕ) → file ++ 58 ∷ block ≡ f ++ 58 ∷ b → is_entry file block ≡ true → is_entry f b ≡ true → (file ≡ f) × (block ≡ b)
+same_entries file block f b e p q = same_parts file block f b e (block_lacks f b q) p
 
 -- a build of its fields
 abbrev build_of : List ℕ → List ℕ → List ℕ → List ℕ → ℕ → Build
@@ -50,7 +52,7 @@ one_build_of words out a b p q =
     let both : codes "build" ∷ (a.file ++ 58 ∷ a.block) ∷ a.catalogue ∷ [] ≡ codes "build" ∷ (b.file ++ 58 ∷ b.block) ∷ b.catalogue ∷ [] = sym p.words_are ∙ q.words_are in
     let entries : a.file ++ 58 ∷ a.block ≡ b.file ++ 58 ∷ b.block = cc in
     let catalogues : a.catalogue ≡ b.catalogue = cc in
-    let sides = one_cut 58 a.file a.block b.file b.block entries (block_lacks a.out a.file a.block a.catalogue p.parts) (block_lacks b.out b.file b.block b.catalogue q.parts) in
+    let sides = same_entries a.file a.block b.file b.block entries p.entry q.entry in
     ap (λ f. build_of f a.block a.catalogue a.out a.steps) sides.0
     ∙ ap (λ k. build_of b.file k a.catalogue a.out a.steps) sides.1
     ∙ ap (λ c. build_of b.file b.block c a.out a.steps) catalogues
@@ -60,3 +62,38 @@ one_build_of words out a b p q =
 -- Words are a build in one way.
 pub one_build : (words : List (List ℕ)) (a b : Build) → IsBuild words a → IsBuild words b → a ≡ b
 one_build words a b p q = one_build_of (line_of words).positional (unwrap_or (line_of words).out default_out) a b p.of q.of
+
+-- a check of its fields
+abbrev check_of : List ℕ → List ℕ → List ℕ → List ℕ → Check
+check_of file block catalogue cert = record { file = file; block = block; catalogue = catalogue; cert = cert }
+
+-- Positional words are a check in one way.
+pub one_check_of : (words : List (List ℕ)) (a b : Check) → IsCheckOf words a → IsCheckOf words b → a ≡ b
+one_check_of words a b p q =
+    let both : codes "check" ∷ (a.file ++ 58 ∷ a.block) ∷ a.catalogue ∷ a.cert ∷ [] ≡ codes "check" ∷ (b.file ++ 58 ∷ b.block) ∷ b.catalogue ∷ b.cert ∷ [] = sym p.words_are ∙ q.words_are in
+    let entries : a.file ++ 58 ∷ a.block ≡ b.file ++ 58 ∷ b.block = cc in
+    let catalogues : a.catalogue ≡ b.catalogue = cc in
+    let certs : a.cert ≡ b.cert = cc in
+    let sides = same_entries a.file a.block b.file b.block entries p.entry q.entry in
+    ap (λ f. check_of f a.block a.catalogue a.cert) sides.0
+    ∙ ap (λ k. check_of b.file k a.catalogue a.cert) sides.1
+    ∙ ap (λ c. check_of b.file b.block c a.cert) catalogues
+    ∙ ap (check_of b.file b.block b.catalogue) certs
+
+-- Words are a check in one way.
+pub one_check : (words : List (List ℕ)) (a b : Check) → IsCheck words a → IsCheck words b → a ≡ b
+one_check words a b p q = one_check_of (line_of words).positional a b p.of q.of
+
+-- Words are never both a build and a check: their first word differs.
+pub build_no_check : (words : List (List ℕ)) (build : Build) (check : Check) → IsBuild words build → IsCheck words check → ⊥
+build_no_check words build check p q =
+    let both : codes "build" ∷ (build.file ++ 58 ∷ build.block) ∷ build.catalogue ∷ [] ≡ codes "check" ∷ (check.file ++ 58 ∷ check.block) ∷ check.catalogue ∷ check.cert ∷ [] = sym p.of.words_are ∙ q.of.words_are in
+    let commands : codes "build" ≡ codes "check" = cc in
+    let bad : ⊥ = cc in bad
+
+-- Words are a task in one way.
+pub one_job : (words : List (List ℕ)) (a b : Task) → IsJob words a → IsJob words b → a ≡ b
+one_job words (tasks.Build a) (tasks.Build b) p q = ap tasks.Build (one_build words a b p q)
+one_job words (tasks.Build a) (tasks.Check b) p q = absurd (build_no_check words a b p q)
+one_job words (tasks.Check a) (tasks.Build b) p q = absurd (build_no_check words b a q p)
+one_job words (tasks.Check a) (tasks.Check b) p q = ap tasks.Check (one_check words a b p q)

@@ -1,13 +1,10 @@
-use Rattle.std.proofs.Common.{◌≡◌, ℕ, ◌<◌, ◌≢◌, ◌+◌, ◌==◌, suc, Bool, true, false, not, List, [], ◌∷◌, ◌++◌, length, take, drop, get_or, ap, sym, ◌∙◌, refl, arith, take-append-drop, get_or-drop, length-drop, drop-cons, add-one}
+use Rattle.std.proofs.Common.{◌≡◌, ℕ, ◌<◌, ◌≢◌, ◌+◌, ◌==◌, suc, true, false, List, [], ◌∷◌, ◌++◌, length, take, drop, get_or, ap, sym, ◌∙◌, refl, arith, take-append-drop, get_or-drop, length-drop, drop-cons, add-one}
 use Rattle.std.specs.Prelude.{codes}
 use Rattle.std.specs.List.{list_any, slice_range}
-use Rattle.std.specs.Str.{bytes_eq}
 use Rattle.std.proofs.lemmas.Bool.{ne_eqb}
-use Rattle.std.proofs.lemmas.Slice.Eq.{bytes_eq-Decides}
-use Rattle.ato_words.specs.PlainNames.{is_plain}
-use Rattle.ato_words.specs.Words.{are_parts, IsBuildOf}
+use Rattle.ato_words.specs.Words.{is_entry, are_apart, IsBuildOf}
 use Rattle.ato_words.specs.declared.words.Build.{Build}
-use Rattle.ato_words.proofs.WordLaws.{has, same_parts}
+use Rattle.ato_words.proofs.WordLaws.{same_parts, same_entries}
 
 -- a list at one of its indices
 cut_at : (xs : List ℕ) (k c : ℕ) → k < length xs → get_or xs k 0 ≡ c → xs ≡ take k xs ++ c ∷ drop (k + 1) xs
@@ -44,46 +41,33 @@ three_texts (x ∷ y ∷ z ∷ w ∷ ws) a b c h p q r = absurd (omega arith)
 pub not_three_texts : (xs : List (List ℕ)) → length xs ≢ 3 → (a b c : List ℕ) → xs ≡ a ∷ b ∷ c ∷ [] → ⊥
 not_three_texts xs h a b c e = h (ap length e)
 
--- an entry whose division at the last colon gives no parts has none
-pub no_parts : (entry f b out catalogue : List ℕ) → entry ≡ f ++ 58 ∷ b → are_parts out f b catalogue ≡ false → list_any (λ n. n == 58) b ≡ false → (file block : List ℕ) → entry ≡ file ++ 58 ∷ block → are_parts out file block catalogue ≡ true → ⊥
-no_parts entry f b out catalogue is bad none file block e h =
-    let same = same_parts out file block f b catalogue (sym e ∙ is) none h in
-    let yes : are_parts out f b catalogue ≡ true = ap (λ x. are_parts out x b catalogue) (sym same.0) ∙ ap (λ x. are_parts out file x catalogue) (sym same.1) ∙ h in
+-- four texts
+pub four_texts : (xs : List (List ℕ)) (a b c d : List ℕ) → length xs ≡ 4 → a ≡ get_or xs 0 a → b ≡ get_or xs 1 b → c ≡ get_or xs 2 c → d ≡ get_or xs 3 d → xs ≡ a ∷ b ∷ c ∷ d ∷ []
+four_texts [] a b c d h p q r s = absurd (omega arith)
+four_texts (x ∷ []) a b c d h p q r s = absurd (omega arith)
+four_texts (x ∷ y ∷ []) a b c d h p q r s = absurd (omega arith)
+four_texts (x ∷ y ∷ z ∷ []) a b c d h p q r s = absurd (omega arith)
+four_texts (x ∷ y ∷ z ∷ w ∷ []) a b c d h p q r s = cc
+four_texts (x ∷ y ∷ z ∷ w ∷ v ∷ vs) a b c d h p q r s = absurd (omega arith)
+
+-- another number of texts
+pub not_four_texts : (xs : List (List ℕ)) → length xs ≢ 4 → (a b c d : List ℕ) → xs ≡ a ∷ b ∷ c ∷ d ∷ [] → ⊥
+not_four_texts xs h a b c d e = h (ap length e)
+
+-- a text whose two sides of the last colon are no entry is none
+pub no_entry : (text f b : List ℕ) → text ≡ f ++ 58 ∷ b → is_entry f b ≡ false → list_any (λ n. n == 58) b ≡ false → (file block : List ℕ) → text ≡ file ++ 58 ∷ block → is_entry file block ≡ true → ⊥
+no_entry text f b is bad none file block e h =
+    let same = same_parts file block f b (sym e ∙ is) none h in
+    let yes : is_entry f b ≡ true = ap (λ x. is_entry x b) (sym same.0) ∙ ap (λ x. is_entry file x) (sym same.1) ∙ h in
     cc
 
--- an entry with no colon has no parts
-pub no_colon : (entry out catalogue : List ℕ) → list_any (λ n. n == 58) entry ≡ false → (file block : List ℕ) → entry ≡ file ++ 58 ∷ block → are_parts out file block catalogue ≡ true → ⊥
-no_colon entry out catalogue none file block e h =
-    let yes : list_any (λ n. n == 58) entry ≡ true = ap (list_any (λ n. n == 58)) e ∙ has 58 file block in cc
-
--- other than three words are no build
-pub count_no_build : (words : List (List ℕ)) (out : List ℕ) → ((a b c : List ℕ) → words ≡ a ∷ b ∷ c ∷ [] → ⊥) → (build : Build) → IsBuildOf words out build → ⊥
-count_no_build words out none build job = none _ _ _ job.words_are
-
--- another command is no build
-pub command_no_build : (words : List (List ℕ)) (out a b c : List ℕ) → words ≡ a ∷ b ∷ c ∷ [] → a ≢ codes "build" → (build : Build) → IsBuildOf words out build → ⊥
-command_no_build words out a b c is other build job = other (let both : a ∷ b ∷ c ∷ [] ≡ codes "build" ∷ (build.file ++ 58 ∷ build.block) ∷ build.catalogue ∷ [] = sym is ∙ job.words_are in cc)
-
--- words for a name that is not plain are no build
-pub out_no_build : (words : List (List ℕ)) (out : List ℕ) → is_plain out ≡ false → (build : Build) → IsBuildOf words out build → ⊥
-out_no_build words out bad build job = let yes : is_plain out ≡ true = ap is_plain (sym job.out_is) ∙ job.plain in let wrong : ⊥ = cc in wrong
-
--- words whose entry has no parts are no build
-pub entry_no_build : (words : List (List ℕ)) (out a b c : List ℕ) → words ≡ a ∷ b ∷ c ∷ [] → ((file block : List ℕ) → b ≡ file ++ 58 ∷ block → are_parts out file block c ≡ true → ⊥) → (build : Build) → IsBuildOf words out build → ⊥
-entry_no_build words out a b c is none build job =
-    let both : a ∷ b ∷ c ∷ [] ≡ codes "build" ∷ (build.file ++ 58 ∷ build.block) ∷ build.catalogue ∷ [] = sym is ∙ job.words_are in
-    let entry : b ≡ build.file ++ 58 ∷ build.block = cc in
-    let last : c ≡ build.catalogue = cc in
-    none build.file build.block entry
-    (ap (λ o. are_parts o build.file build.block c) (sym job.out_is) ∙ ap (λ l. are_parts build.out build.file build.block l) last ∙ job.parts)
-
-not_false : (a : Bool) → not a ≡ false → a ≡ true
-not_false true h = refl
-not_false false h = let bad : ⊥ = cc in absurd bad
-
--- three words of which the first is the command, and the second is divided
-pub build_words : (words : List (List ℕ)) (a b c file block : List ℕ) (r : Bool) → words ≡ a ∷ b ∷ c ∷ [] → r ≡ not (bytes_eq a (codes "build")) → r ≡ false → b ≡ file ++ 58 ∷ block → words ≡ codes "build" ∷ (file ++ 58 ∷ block) ∷ c ∷ []
-build_words words a b c file block r is differs same sides =
-    let tested : not (bytes_eq a (codes "build")) ≡ false = sym differs ∙ same in
-    let command : a ≡ codes "build" = (bytes_eq-Decides a (codes "build")).0 (not_false _ tested) in
-    is ∙ ap (λ x. x ∷ b ∷ c ∷ []) command ∙ ap (λ x. codes "build" ∷ x ∷ c ∷ []) sides
+-- words with an entry, of which the names are not apart, are no build
+pub not_apart : (words : List (List ℕ)) (out command entry catalogue file block : List ℕ) → words ≡ command ∷ entry ∷ catalogue ∷ [] → entry ≡ file ++ 58 ∷ block → is_entry file block ≡ true → are_apart out file catalogue ≡ false → (build : Build) → IsBuildOf words out build → ⊥
+not_apart words out command entry catalogue file block is sides good bad build job =
+    let both : command ∷ entry ∷ catalogue ∷ [] ≡ codes "build" ∷ (build.file ++ 58 ∷ build.block) ∷ build.catalogue ∷ [] = sym is ∙ job.words_are in
+    let entries : entry ≡ build.file ++ 58 ∷ build.block = cc in
+    let catalogues : catalogue ≡ build.catalogue = cc in
+    let same = same_entries file block build.file build.block (sym sides ∙ entries) good job.entry in
+    let yes : are_apart out file catalogue ≡ true =
+    ap (λ o. are_apart o file catalogue) (sym job.out_is) ∙ ap (λ f. are_apart build.out f catalogue) same.0 ∙ ap (are_apart build.out build.file) catalogues ∙ job.apart in
+    let wrong : ⊥ = cc in wrong

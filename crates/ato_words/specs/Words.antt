@@ -10,6 +10,7 @@ use Rattle.ato_words.specs.declared.word_line.Turn.{Turn}
 use Rattle.ato_words.specs.declared.word_line.Turn.TheVariants.{Any, Value, Positional, Refused}
 use Rattle.ato_words.specs.declared.word_line.WordLine.{WordLine}
 use Rattle.ato_words.specs.declared.words.Build.{Build}
+use Rattle.ato_words.specs.declared.words.Check.{Check}
 use Rattle.ato_words.specs.declared.words.Task.{Task}
 use Rattle.ato_words.specs.declared.words.Task.TheVariants as tasks
 
@@ -69,19 +70,21 @@ is_read Refused = false
 
 -- ---- the task
 
--- The file, the block and the catalogue may be a build's: plain names that the build does not put, and a name
--- of the language, which has no colon.
-abbrev pub are_parts : List ℕ → List ℕ → List ℕ → List ℕ → Bool
-are_parts out file block catalogue =
-    is_plain file && is_name block && not (list_any (λ b. b == 58) block) && is_plain catalogue && not (is_put out file) && not (is_put out catalogue)
+-- The file and the block may be an entry's: a plain name, and a name of the language, which has no colon.
+abbrev pub is_entry : List ℕ → List ℕ → Bool
+is_entry file block = is_plain file && is_name block && not (list_any (λ b. b == 58) block)
+
+-- What is put is named by a plain name. The entry's file and the catalogue, which is a plain name, are not put by the build.
+abbrev pub are_apart : List ℕ → List ℕ → List ℕ → Bool
+are_apart out file catalogue = is_plain out && is_plain catalogue && not (is_put out file) && not (is_put out catalogue)
 
 -- The positional words are `build ENTRY CATALOGUE`, and ENTRY is a file, a colon and a block's name, divided at its
--- last colon. What is put is named by a plain name.
+-- last colon.
 pub record IsBuildOf (positional : List (List ℕ)) (out : List ℕ) (build : Build) : Type 0 where
   pub words_are : positional ≡ codes "build" ∷ (build.file ++ 58 ∷ build.block) ∷ build.catalogue ∷ []
-  pub parts : are_parts build.out build.file build.block build.catalogue ≡ true
+  pub entry : is_entry build.file build.block ≡ true
+  pub apart : are_apart build.out build.file build.catalogue ≡ true
   pub out_is : build.out ≡ out
-  pub plain : is_plain build.out ≡ true
   pub steps : build.steps ≡ 20000
 
 -- what is put where the words do not say
@@ -93,9 +96,23 @@ pub record IsBuild (words : List (List ℕ)) (build : Build) : Type 0 where
   pub read : is_read (line_of words).turn ≡ true
   pub of : IsBuildOf (line_of words).positional (unwrap_or (line_of words).out default_out) build
 
+-- The positional words are `check ENTRY CATALOGUE CERT`, with an entry like a build's and two plain names.
+pub record IsCheckOf (positional : List (List ℕ)) (check : Check) : Type 0 where
+  pub words_are : positional ≡ codes "check" ∷ (check.file ++ 58 ∷ check.block) ∷ check.catalogue ∷ check.cert ∷ []
+  pub entry : is_entry check.file check.block ≡ true
+  pub catalogue : is_plain check.catalogue ≡ true
+  pub cert : is_plain check.cert ≡ true
+
+-- The words are this check, which has no option.
+pub record IsCheck (words : List (List ℕ)) (check : Check) : Type 0 where
+  pub read : is_read (line_of words).turn ≡ true
+  pub no_option : (line_of words).out ≡ None
+  pub of : IsCheckOf (line_of words).positional check
+
 -- The words are this task.
 abbrev pub IsJob : List (List ℕ) → Task → Type 0
 IsJob words (tasks.Build build) = IsBuild words build
+IsJob words (tasks.Check check) = IsCheck words check
 
 -- No task has these words.
 abbrev pub IsNoJob : List (List ℕ) → Type 0

@@ -5,8 +5,13 @@
 //! specs/PlainNames.antt.
 #![tactic(auto)]
 
+mod builds;
+mod checks;
+mod entries;
 mod plain_names;
+#[cfg(test)]
+mod tests;
 mod word_line;
 mod words;
 
-pub use words::{Build, Task, job};
+pub use words::{Build, Check, Task, job};

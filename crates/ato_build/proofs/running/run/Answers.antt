@@ -2,7 +2,8 @@ use Rattle.ato_words.specs.Words.{texts}
 use Rattle.ato_build.specs.Texts.{said_text}
 use Rattle.std.proofs.Common.{inl, inr, refl}
 use Rattle.ato_build.proofs.BuildLemmas.{printed, caused}
-use Rattle.ato_build.proofs.HeadlineLaws.{usage_where, fault_where, built_where, refuted_where, complete, never_rose}
+use Rattle.ato_build.proofs.BuiltCertificateLaws.{built_accepted}
+use Rattle.ato_build.proofs.HeadlineLaws.{usage_where, fault_where, built_where, refuted_where, accepted_where, rejected_where, complete, never_rose}
 use Rattle.ato_build.proofs.running.run.Goals as goal
 
 pub returns-then-say-clause-headline : goal.returns-then-say-clause-headline
@@ -29,6 +30,21 @@ returns-then-say-clause-built_where g c =
 pub returns-then-say-clause-refuted_where : goal.returns-then-say-clause-refuted_where
 returns-then-say-clause-refuted_where g c =
     refuted_where (texts c.args.words.now.items) (g.S.Shelf.files c.args.shelf.now) (g.T.Tray.files c.args.tray.now) (g.T.Tray.files c.settle-status.new.tray)
+    (g.O.Sink.written c.args.out.now) (g.O.Sink.written c.say.new.out) c.settle-status.result.status (returns-then-say-clause-headline g c)
+
+pub returns-then-say-clause-accepted_where : goal.returns-then-say-clause-accepted_where
+returns-then-say-clause-accepted_where g c =
+    accepted_where (texts c.args.words.now.items) (g.S.Shelf.files c.args.shelf.now) (g.T.Tray.files c.args.tray.now) (g.T.Tray.files c.settle-status.new.tray)
+    (g.O.Sink.written c.args.out.now) (g.O.Sink.written c.say.new.out) c.settle-status.result.status (returns-then-say-clause-headline g c)
+
+pub returns-then-say-clause-rejected_where : goal.returns-then-say-clause-rejected_where
+returns-then-say-clause-rejected_where g c =
+    rejected_where (texts c.args.words.now.items) (g.S.Shelf.files c.args.shelf.now) (g.T.Tray.files c.args.tray.now) (g.T.Tray.files c.settle-status.new.tray)
+    (g.O.Sink.written c.args.out.now) (g.O.Sink.written c.say.new.out) c.settle-status.result.status (returns-then-say-clause-headline g c)
+
+pub returns-then-say-clause-built_accepted : goal.returns-then-say-clause-built_accepted
+returns-then-say-clause-built_accepted g c =
+    built_accepted (texts c.args.words.now.items) (g.S.Shelf.files c.args.shelf.now) (g.T.Tray.files c.args.tray.now) (g.T.Tray.files c.settle-status.new.tray)
     (g.O.Sink.written c.args.out.now) (g.O.Sink.written c.say.new.out) c.settle-status.result.status (returns-then-say-clause-headline g c)
 
 pub returns-else-say-clause-write_told : goal.returns-else-say-clause-write_told

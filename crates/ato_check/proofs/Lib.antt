@@ -1,0 +1,6 @@
+pub mod HullLaws
+pub mod OneBadLine
+pub mod PickLemmas
+pub mod SelectedLaws
+pub mod TreeLines
+pub mod WholeLemmas

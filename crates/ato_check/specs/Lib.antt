@@ -1,0 +1,4 @@
+pub mod Checks
+pub mod FirstBad
+pub mod Hulls
+pub mod Parts
