@@ -11,7 +11,8 @@ use Rattle.ato_catalog.specs.Contents.{Contents}
 use Rattle.ato_catalog.proofs.CatalogueLaws.{contents_read}
 use Rattle.ato_words.specs.Words.{IsBuild}
 use Rattle.ato_words.specs.declared.words.Build.{Build}
-use Rattle.ato_build.specs.Answers.{IsStopped, IsEnd}
+use Rattle.ato_build.specs.Answers.{IsStopped}
+use Rattle.ato_build.specs.Causes.{IsEnd}
 use Rattle.ato_build.specs.Decisions.{IsDecision}
 use Rattle.ato_build.specs.Entry.{source_limit, GivesBlock}
 use Rattle.ato_build.specs.Found.{Missing, Whole, HasFile}

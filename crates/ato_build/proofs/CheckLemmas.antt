@@ -28,7 +28,8 @@ use Rattle.ato_outside.specs.Files.{Files}
 use Rattle.ato_words.specs.Words.{IsCheck}
 use Rattle.ato_words.specs.declared.words.Check.{Check}
 use Rattle.ato_words.specs.declared.words.Task.TheVariants as tasks
-use Rattle.ato_build.specs.Answers.{IsAnswer, IsVerdict}
+use Rattle.ato_build.specs.Answers.{IsAnswer}
+use Rattle.ato_build.specs.Causes.{IsVerdict}
 use Rattle.ato_build.specs.Found.{Found, Whole, HasFile}
 use Rattle.ato_build.specs.Headline.{Means, Judges}
 use Rattle.ato_build.specs.Input.{certificate_limit, Input, HasSources, Gives, StandsInCertificate}

@@ -3,6 +3,7 @@ pub mod DecisionLemmas
 pub mod EntryLemmas
 pub mod Examples
 pub mod HeadlineLaws
+pub mod InputLaws
 pub mod OutputLemmas
 pub mod PrintLemmas
 pub mod ProblemLemmas

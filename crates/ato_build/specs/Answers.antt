@@ -3,6 +3,7 @@ use Rattle.ato_base.specs.declared.memory.NoMemory.{NoMemory}
 use Rattle.ato_outside.specs.Files.{Files}
 use Rattle.ato_outside.specs.declared.tray.TrayError.{TrayError}
 use Rattle.ato_outside.specs.declared.tray.TrayError.TheVariants as tray_errors
+use Rattle.ato_build.specs.Causes.{IsEnd}
 use Rattle.ato_build.specs.Headline.{Means}
 use Rattle.ato_build.specs.Texts.{said_text, write_fault_text, memory_text}
 use Rattle.ato_build.specs.declared.answer.Answer.{Answer}
@@ -26,18 +27,6 @@ stopped_answer name tray_errors.NoMemory answer = Is answer answers.NoMemory mem
 
 abbrev pub IsStopped : Stop → Answer → Type 0
 IsStopped stop answer = stopped_answer stop.name stop.error answer
-
--- A build ends so where all goes well.
-abbrev pub IsEnd : Status → Type 0
-IsEnd answers.Built = Unit {0}
-IsEnd answers.Refuted = Unit {0}
-IsEnd status = ⊥
-
--- A check ends so where all goes well.
-abbrev pub IsVerdict : Status → Type 0
-IsVerdict answers.Accepted = Unit {0}
-IsVerdict (answers.Rejected line) = Unit {0}
-IsVerdict status = ⊥
 
 -- A build ends so once its files are being put.
 abbrev pub IsPutStatus : Status → Type 0

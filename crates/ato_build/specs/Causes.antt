@@ -27,7 +27,19 @@ EndsOutside status = (status ≡ answers.ReadFault) ⊎ (status ≡ answers.NoMe
 abbrev pub IsRejected : Status → Type 0
 IsRejected status = (line : ℕ) × (status ≡ answers.Rejected line)
 
--- The task was done: a build is decided, a check has its verdict.
+-- A build ends so where all goes well.
+abbrev pub IsEnd : Status → Type 0
+IsEnd answers.Built = Unit {0}
+IsEnd answers.Refuted = Unit {0}
+IsEnd status = ⊥
+
+-- A check ends so where all goes well.
+abbrev pub IsVerdict : Status → Type 0
+IsVerdict answers.Accepted = Unit {0}
+IsVerdict (answers.Rejected line) = Unit {0}
+IsVerdict status = ⊥
+
+-- The task was done.
 abbrev pub IsDone : Task → Status → Type 0
-IsDone (tasks.Build build) status = (status ≡ answers.Built) ⊎ (status ≡ answers.Refuted)
-IsDone (tasks.Check check) status = (status ≡ answers.Accepted) ⊎ IsRejected status
+IsDone (tasks.Build build) status = IsEnd status
+IsDone (tasks.Check check) status = IsVerdict status

@@ -71,7 +71,7 @@ pub record IsFaulted (words : List (List ℕ)) (held old new : Option Files) (f 
   pub nothing_put : new ≡ old
   pub text_is : text ≡ fault_text (project_of task) (bytes_of input.entry) f
 
--- The certificate of a check was not read, whose project has no fault.
+-- The project of a check has no fault, and its certificate was not read.
 abbrev pub NamesCertificate : Option Files → Task → List ℕ → Type 0
 NamesCertificate held (tasks.Build build) text = ⊥
 NamesCertificate held (tasks.Check check) text =

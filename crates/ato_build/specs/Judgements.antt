@@ -28,13 +28,13 @@ pub record Accepts (part : Option Part) (contents : Contents) (bytes text : List
   pub text_is : text ≡ accepted_text (proof_word cert.proof)
 
 -- The bytes are the text of no valid certificate.
-abbrev pub IsNoCertificate : Option Part → Contents → List ℕ → Type 0
-IsNoCertificate part contents bytes = (cert : Cert) → bytes ≡ cert_text cert → IsValidFor part contents cert → ⊥
+abbrev pub IsNoValidCertificate : Option Part → Contents → List ℕ → Type 0
+IsNoValidCertificate part contents bytes = (cert : Cert) → bytes ≡ cert_text cert → IsValidFor part contents cert → ⊥
 
 -- What is found of the bytes, by the status that the check ends with where all goes well.
 abbrev pub IsJudgement : Option Part → Contents → List ℕ → Status → List ℕ → Type 0
 IsJudgement part contents bytes answers.Accepted text = Accepts part contents bytes text
-IsJudgement part contents bytes (answers.Rejected line) text = IsNoCertificate part contents bytes × (text ≡ rejected_text line)
+IsJudgement part contents bytes (answers.Rejected line) text = IsNoValidCertificate part contents bytes × (text ≡ rejected_text line)
 IsJudgement part contents bytes status text = ⊥
 
 -- The same of a problem: the bytes are the text of a certificate that is valid for it, or of none.

@@ -3,8 +3,8 @@ ghost use Rattle.std.specs.Prelude.{◌≡◌, Option, List, ℕ, Err, IfOk, str
 ghost use Rattle.ato_base.specs.declared.faults.Fault.{Fault};
 ghost use Rattle.ato_outside.specs.Causes.{Counts, Rose};
 ghost use Rattle.ato_outside.specs.Files.{Files};
-ghost use Rattle.ato_build.specs.Answers.{IsAnswer, IsStopped, IsEnd, IsPutStatus};
-ghost use Rattle.ato_build.specs.Causes.{HasStatus, CountsReads};
+ghost use Rattle.ato_build.specs.Answers.{IsAnswer, IsStopped, IsPutStatus};
+ghost use Rattle.ato_build.specs.Causes.{IsEnd, HasStatus, CountsReads};
 ghost use Rattle.ato_build.specs.Headline.{Means, Decides};
 ghost use Rattle.ato_build.specs.Projects.{built_project, options_of};
 ghost use Rattle.ato_build.specs.Texts.{said_text};

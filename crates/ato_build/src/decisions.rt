@@ -7,7 +7,7 @@ ghost use Rattle.ato_catalog.specs.Catalogue.{ShowsContents};
 ghost use Rattle.ato_catalog.specs.Contents.{Contents, numbered};
 ghost use Rattle.ato_catalog.specs.WellMade.{IsWellMade};
 ghost use Rattle.ato_cert.specs.Nodes as counting;
-ghost use Rattle.ato_build.specs.Answers.{IsEnd};
+ghost use Rattle.ato_build.specs.Causes.{IsEnd};
 ghost use Rattle.ato_build.specs.Decisions.{IsDecision, net_output, cert_output};
 ghost use Rattle.ato_build.specs.DecisionParts.{PutsBuilt, PutsRefuted};
 ghost use Rattle.ato_first.specs.FirstParts.{part_of, slot_count, HasRanges, comp_value};

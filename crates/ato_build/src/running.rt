@@ -17,7 +17,7 @@ ghost use Rattle.ato_build.specs.Causes.{EndsOutside, IsDone, IsRejected};
 ghost use Rattle.ato_build.specs.Found.{Whole};
 ghost use Rattle.ato_build.specs.Headline.{Headline, IsToldWriteFault};
 ghost use Rattle.ato_build.specs.Input.{input_of, certificate_of, Gives, Stands};
-ghost use Rattle.ato_build.specs.Judgements.{IsNoCertificate};
+ghost use Rattle.ato_build.specs.Judgements.{IsNoValidCertificate};
 ghost use Rattle.ato_build.specs.Problems.{IsValidFor};
 ghost use Rattle.ato_build.specs.Projects.{built_project, checked_project};
 
@@ -82,7 +82,7 @@ pub fn run<S: Shelf, T: Tray, O: Sink>(
         → (result ≡ Status.Accepted) ⊎ EndsOutside result) }
     ensures rejected_where { IfSome (S.files shelf.old) (λ files. (check : Check) (block : Block) (contents : Contents) (bytes : List ℕ)
         → IsCheck (texts words.now.items) check → Gives (checked_project check) (input_of files (tasks.Check check)) block contents
-        → certificate_of files (tasks.Check check) ≡ Whole bytes → IsNoCertificate (part_of block.lines) contents bytes
+        → certificate_of files (tasks.Check check) ≡ Whole bytes → IsNoValidCertificate (part_of block.lines) contents bytes
         → IsRejected result ⊎ EndsOutside result) }
 
     // What a build puts as its certificate a check of the same project accepts.

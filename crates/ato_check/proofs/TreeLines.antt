@@ -17,7 +17,7 @@ use Rattle.ato_cert.specs.Texts.{tree_text, empty_line, row_line, fails_line}
 use Rattle.ato_cert.proofs.TreeLemmas.{nodes_empty, nodes_by_row, nodes_fails, text_empty, text_by_row, text_fails}
 use Rattle.ato_check.specs.FirstBad.{IsJustified, IsBadAt}
 use Rattle.ato_check.specs.FirstBad as first
-use Rattle.ato_check.specs.Parts.{FailsAtPoint, IsChecked}
+use Rattle.ato_check.specs.Parts.{FailsAtPoint, IsCheckedTree}
 
 -- what a justified first line says, by its kind
 
@@ -119,10 +119,10 @@ no_failure slot rows n point out = first.here (λ j. out (justified_fails slot r
 
 -- trees whose lines are justified
 
-pub no_rows : (slot : Slot) (rows : List Row) (n : ℕ) → (n ≡ 1) × (rows ≡ []) → IsChecked slot rows (tree.Empty n) 1
+pub no_rows : (slot : Slot) (rows : List Row) (n : ℕ) → (n ≡ 1) × (rows ≡ []) → IsCheckedTree slot rows (tree.Empty n) 1
 no_rows slot rows n h = rw (h.0, h.1) (record { refutes = justified.empty; counted = sym (nodes_empty 1) })
 
-pub failure : (slot : Slot) (rows : List Row) (n : ℕ) (point : List Frac) → (n ≡ 1) × FailsAtPoint slot rows point → IsChecked slot rows (tree.Fails n point) 1
+pub failure : (slot : Slot) (rows : List Row) (n : ℕ) (point : List Frac) → (n ≡ 1) × FailsAtPoint slot rows point → IsCheckedTree slot rows (tree.Fails n point) 1
 failure slot rows n point h = rw (h.0, h.1.point_is) (record { refutes = justified.fails h.1.t h.1.fails; counted = sym (nodes_fails 1 (h.1.t ∷ [])) })
 
 -- a point of one fraction
@@ -145,13 +145,13 @@ module _ (slot : Slot) (rows below : List Row) (number : ℕ) (above : List Row)
       let b' : IsBadAt slot (low_side number rows) low at = rw h.low_is b in
       rw one (first.low {low = low} {k = at} number high h.middle b')
 
-  pub bad_high : (before at : ℕ) → IsChecked slot below low before → IsBadAt slot above high at → IsBadAt slot rows (tree.ByRow n number low high) (1 + before + at)
+  pub bad_high : (before at : ℕ) → IsCheckedTree slot below low before → IsBadAt slot above high at → IsBadAt slot rows (tree.ByRow n number low high) (1 + before + at)
   bad_high before at c b =
       let r : Refutes slot (low_side number rows) low = rw h.low_is c.refutes in
       let b' : IsBadAt slot (high_side number rows) high at = rw h.high_is b in
       rw (one, c.counted) (first.high {low = low} {high = high} {k = at} number h.middle r b')
 
-  pub both_checked : (before more : ℕ) → IsChecked slot below low before → IsChecked slot above high more → IsChecked slot rows (tree.ByRow n number low high) (1 + before + more)
+  pub both_checked : (before more : ℕ) → IsCheckedTree slot below low before → IsCheckedTree slot above high more → IsCheckedTree slot rows (tree.ByRow n number low high) (1 + before + more)
   both_checked before more c d =
       let r : Refutes slot (low_side number rows) low = rw h.low_is c.refutes in
       let s : Refutes slot (high_side number rows) high = rw h.high_is d.refutes in

@@ -39,8 +39,9 @@ pub record IsPicked (slot : Slot) (pick : List ℕ) (row : Row) : Type 0 where
   pub candidate : Contains slot.rows row
   pub pick_is : pick ≡ row.number ∷ []
 
--- the first bad line of a pick with its checks, which are `pick` (4), `check 1` (5), `holds` (6) and `end`: the pick takes no
--- candidate, or the candidate's range does not lie in the target, or (2) `built` stands without its check
+-- the first bad line of a pick with its checks, whose lines are `pick` from line 4 on, `check 1`, `holds` and `end`: line 4 where the
+-- pick takes no candidate, line 6 where the candidate's range does not lie in the target, and line 2 where `built` stands without
+-- its check
 pub data IsBadPick (slot : Slot) (pick : List ℕ) (boxes : List BoxTree) : ℕ → Type 0 where
   no_candidate : ((row : Row) → ¬ IsPicked slot pick row) → IsBadPick slot pick boxes 4
   outside : (row : Row) → IsPicked slot pick row → boxes ≡ Holds ∷ [] → ¬ LiesInTarget slot row → IsBadPick slot pick boxes 6

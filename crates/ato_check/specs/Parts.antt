@@ -21,6 +21,6 @@ pub record FailsAtPoint (slot : Slot) (rows : List Row) (point : List Frac) : Ty
   pub fails : FailsAt slot rows t
 
 -- so many lines of a tree, of which each is justified
-pub record IsChecked (slot : Slot) (rows : List Row) (tree : PickTree) (count : ℕ) : Type 0 where
+pub record IsCheckedTree (slot : Slot) (rows : List Row) (tree : PickTree) (count : ℕ) : Type 0 where
   pub refutes : Refutes slot rows tree
   pub counted : count ≡ tree_nodes tree

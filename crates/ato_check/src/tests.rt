@@ -98,6 +98,11 @@ fn trees_over_two_rows(rt: HostRuntime) -> Result<(), Fail> {
         (2, "row 1 1\nfails 1 0/1\nfails 1 2/1\n", 6),
         (3, "row 1 2\nfails 1 0/1\nfails 1 0/1\n", 4),
         (3, "row 1 0\nfails 1 0/1\nfails 1 0/1\n", 4),
+        (
+            3,
+            "row 1 1\nfails 1 1/170141183460469231731687303715884105727\nfails 1 0/1\n",
+            5,
+        ),
         (3, "row 1 1\nempty 1\nfails 1 0/1\n", 5),
         (3, "row 1 1\nfails 1 0/1\nempty 1\n", 6),
         (3, "row 1 1\nfails 1 0/1\n", 9999),
@@ -148,6 +153,19 @@ fn trees_over_four_rows(rt: HostRuntime) -> Result<(), Fail> {
         let proof = format!(in alloc; "row 1 3\nrow 1 1\nfails 1 0/1\nfails 1 0/1\n{high}")?;
         let found = bad_line_with(alloc, &problem, "refuted", 20000, &proof)?;
         assert_eq!(rt; found, line, "{high}");
+    }
+    Ok(())
+}
+
+#[test]
+fn four_rows_divided_off_the_middle(rt: HostRuntime) -> Result<(), Fail> {
+    let alloc = rt.alloc();
+    let rows = [(1, 0, 0), (3, 9, 9), (5, 0, 0), (7, 9, 9)];
+    let problem = problem_of(alloc, rows.as_slice(), (4, 5))?;
+    for number in [1, 2, 4, 5] {
+        let proof = format!(in alloc; "row 1 {number}\nfails 1 0/1\nfails 1 0/1\n")?;
+        let found = bad_line_with(alloc, &problem, "refuted", 20000, &proof)?;
+        assert_eq!(rt; found, 4, "{number}");
     }
     Ok(())
 }

@@ -5,7 +5,7 @@ ghost use Rattle.ato_cert.specs.Justified.{IsMiddle};
 ghost use Rattle.ato_cert.specs.Halves.{AreHalves};
 ghost use Rattle.ato_cert.specs.Nodes.{tree_nodes};
 ghost use Rattle.ato_check.specs.FirstBad.{IsBadAt};
-ghost use Rattle.ato_check.specs.Parts.{FailsAtPoint, IsChecked};
+ghost use Rattle.ato_check.specs.Parts.{FailsAtPoint, IsCheckedTree};
 
 use crate::failing::fails_at;
 use ato_cert::{PickTree, Row, Slot, halves};
@@ -64,7 +64,7 @@ pub(crate) fn check_tree(slot: &Slot, rows: &[Row], tree: &PickTree) -> Result<u
     requires rising { AreRising rows.now }
     requires few { tree_nodes tree.now < 2 ^ 32 }
     ensures { MatchResult result
-        (IsChecked slot.now rows.now tree.now)
+        (IsCheckedTree slot.now rows.now tree.now)
         (IsBadAt slot.now rows.now tree.now) }
 {
     match tree {

@@ -81,6 +81,10 @@ const TASKS: &[(&str, &str)] = &[
         "check main.ato T cat.csv c.cert",
     ),
     (
+        "check main.ato:T cat.csv -- c.cert",
+        "check main.ato T cat.csv c.cert",
+    ),
+    (
         "check a:b.ato:T cat.csv c:d.cert",
         "check a:b.ato T cat.csv c:d.cert",
     ),
@@ -104,6 +108,7 @@ const NO_TASKS: &[&str] = &[
     "check main.ato:T cat.csv c.cert --out=x",
     "check main.ato:T cat.csv c.cert --out out",
     "check main.ato:T cat.csv c.cert --out",
+    "check main.ato:T cat.csv c.cert --steps 7",
     "check main.ato:T cat.csv -c",
     "check -- main.ato:T cat.csv -c",
     "check main.ato:T ../cat.csv c.cert",

@@ -37,7 +37,9 @@ fn check_over(
     let mut tray = SureTray::new(alloc);
     let mut sink = MemSink::new(alloc, 200, List::new(alloc))?;
     let status = run(alloc, &words(alloc, JOB)?, &mut shelf, &mut tray, &mut sink);
-    let put = tray.get("out.net").is_some() || tray.get("out.cert").is_some();
+    let put = ["out.net", "out.csv", "out.cert"]
+        .iter()
+        .any(|name| tray.get(name).is_some());
     Ok((if put { 99 } else { status.code() }, sink))
 }
 
@@ -62,6 +64,22 @@ fn what_a_build_puts_is_accepted(rt: HostRuntime) -> Result<(), Fail> {
         let (code, sink) = check_over(alloc, text.as_bytes(), rows.as_bytes(), cert, &[])?;
         let want = format!(in alloc; "accepted {verdict}\n")?;
         assert_eq!(rt; (code, sink.written()), (0, want.as_bytes()), "{rows}");
+    }
+    Ok(())
+}
+
+#[test]
+fn a_row_of_another_kind_is_no_pick(rt: HostRuntime) -> Result<(), Fail> {
+    let alloc = rt.alloc();
+    let text = source(alloc, "2 to 4")?;
+    let rows = b"part,kind,x\nA,j,3\nB,k,3\n";
+    for (pick, code, want) in [(1, 9, "rejected line 4\n"), (2, 0, "accepted built\n")] {
+        let cert = format!(in alloc;
+            "ato-certificate 1\nverdict built\nsteps 1\npick {pick}\ncheck 1\nholds\nend\n"
+        )?;
+        let cert = Some(cert.as_bytes());
+        let (status, sink) = check_over(alloc, text.as_bytes(), rows, cert, &[])?;
+        assert_eq!(rt; (status, sink.written()), (code, want.as_bytes()), "{pick}");
     }
     Ok(())
 }
@@ -94,70 +112,76 @@ fn said_of(alloc: Global, asserted: &str, cert: &[u8]) -> Result<(u8, MemSink), 
     check_over(alloc, text.as_bytes(), rows, Some(cert), &[])
 }
 
+/// What is asserted, whole texts, and their first bad lines.
+const TEXTS: &[(&str, &str, u32)] = &[
+    ("2 to 4", "", 1),
+    ("2 to 4", "\n", 1),
+    ("2 to 4", "ato-certificate 2\nverdict built\n", 1),
+    ("2 to 4", "ato-certificate 1\r\nverdict built\r\n", 1),
+    ("2 to 4", "ato-certificate 1\nverdict good\n", 2),
+    ("2 to 4", "ato-certificate 1\nverdict built\npick 2\n", 3),
+    ("2 to 4", "ato-certificate 1\nverdict built\nsteps 0\n", 3),
+    ("2 to 4", "ato-certificate 1\nverdict built\nsteps 09\n", 3),
+    (
+        "2 to 4",
+        "ato-certificate 1\nverdict built\nsteps 200001\n",
+        3,
+    ),
+];
+
+/// What is asserted, texts after `verdict `, and their first bad lines.
+const PROOFS: &[(&str, &str, u32)] = &[
+    (
+        "2 to 4",
+        "built\nsteps 9\npick 2\ncheck 1\nholds\nend\n\n",
+        8,
+    ),
+    ("2 to 4", "built\nsteps 9\npick 2\ncheck 1\nholds\nend", 7),
+    ("2 to 4", "built\nsteps 9\npick 1\ncheck 1\nholds\nend\n", 6),
+    ("2 to 4", "built\nsteps 9\npick 3\ncheck 1\nholds\nend\n", 4),
+    (
+        "2 to 4",
+        "built\nsteps 9\npick 02\ncheck 1\nholds\nend\n",
+        4,
+    ),
+    ("2 to 4", "built\nsteps 9\npick 2\nend\n", 2),
+    ("2 to 4", "refuted\nsteps 9\nfails 1 0/1\n", 4),
+    ("4 to 5", "refuted\nsteps 9\nempty 1\n", 4),
+    (
+        "4 to 5",
+        "refuted\nsteps 9\nrow 1 2\nfails 1 0/1\nempty 1\n",
+        4,
+    ),
+    (
+        "4 to 5",
+        "refuted\nsteps 9\nrow 1 1\nfails 1 0/2\nfails 1 0/1\n",
+        5,
+    ),
+    (
+        "4 to 5",
+        "refuted\nsteps 9\nrow 1 1\nfails 1 0/1\nempty 1\n",
+        6,
+    ),
+    (
+        "4 to 5",
+        "refuted\nsteps 9\nrow 1 1\nrow 1 1\nempty 1\nempty 1\nempty 1\n",
+        5,
+    ),
+    (
+        "4 to 5",
+        "refuted\nsteps 2\nrow 1 1\nfails 1 0/1\nfails 1 0/1\n",
+        3,
+    ),
+];
+
 #[test]
 fn spoiled_certificates_name_their_first_bad_line(rt: HostRuntime) -> Result<(), Fail> {
-    for (asserted, cert, line) in [
-        ("2 to 4", "", 1),
-        ("2 to 4", "\n", 1),
-        ("2 to 4", "ato-certificate 2\nverdict built\n", 1),
-        ("2 to 4", "ato-certificate 1\r\nverdict built\r\n", 1),
-        ("2 to 4", "ato-certificate 1\nverdict good\n", 2),
-        ("2 to 4", "ato-certificate 1\nverdict built\npick 2\n", 3),
-        ("2 to 4", "ato-certificate 1\nverdict built\nsteps 0\n", 3),
-        ("2 to 4", "ato-certificate 1\nverdict built\nsteps 09\n", 3),
-        (
-            "2 to 4",
-            "ato-certificate 1\nverdict built\nsteps 200001\n",
-            3,
-        ),
-    ] {
+    for (asserted, cert, line) in TEXTS {
         let want = format!(in rt.alloc(); "rejected line {line}\n")?;
         let (code, sink) = said_of(rt.alloc(), asserted, cert.as_bytes())?;
         assert_eq!(rt; (code, sink.written()), (9, want.as_bytes()), "{cert}");
     }
-    for (asserted, lines, line) in [
-        (
-            "2 to 4",
-            "built\nsteps 9\npick 2\ncheck 1\nholds\nend\n\n",
-            8,
-        ),
-        ("2 to 4", "built\nsteps 9\npick 2\ncheck 1\nholds\nend", 7),
-        ("2 to 4", "built\nsteps 9\npick 1\ncheck 1\nholds\nend\n", 6),
-        ("2 to 4", "built\nsteps 9\npick 3\ncheck 1\nholds\nend\n", 4),
-        (
-            "2 to 4",
-            "built\nsteps 9\npick 02\ncheck 1\nholds\nend\n",
-            4,
-        ),
-        ("2 to 4", "built\nsteps 9\npick 2\nend\n", 2),
-        ("2 to 4", "refuted\nsteps 9\nfails 1 0/1\n", 4),
-        ("4 to 5", "refuted\nsteps 9\nempty 1\n", 4),
-        (
-            "4 to 5",
-            "refuted\nsteps 9\nrow 1 2\nfails 1 0/1\nempty 1\n",
-            4,
-        ),
-        (
-            "4 to 5",
-            "refuted\nsteps 9\nrow 1 1\nfails 1 0/2\nfails 1 0/1\n",
-            5,
-        ),
-        (
-            "4 to 5",
-            "refuted\nsteps 9\nrow 1 1\nfails 1 0/1\nempty 1\n",
-            6,
-        ),
-        (
-            "4 to 5",
-            "refuted\nsteps 9\nrow 1 1\nrow 1 1\nempty 1\nempty 1\nempty 1\n",
-            5,
-        ),
-        (
-            "4 to 5",
-            "refuted\nsteps 2\nrow 1 1\nfails 1 0/1\nfails 1 0/1\n",
-            3,
-        ),
-    ] {
+    for (asserted, lines, line) in PROOFS {
         let cert = format!(in rt.alloc(); "ato-certificate 1\nverdict {lines}")?;
         let want = format!(in rt.alloc(); "rejected line {line}\n")?;
         let (code, sink) = said_of(rt.alloc(), asserted, cert.as_bytes())?;
@@ -169,19 +193,23 @@ fn spoiled_certificates_name_their_first_bad_line(rt: HostRuntime) -> Result<(),
 #[test]
 fn each_cut_of_a_certificate_is_rejected(rt: HostRuntime) -> Result<(), Fail> {
     let alloc = rt.alloc();
-    let cert =
-        b"ato-certificate 1\nverdict refuted\nsteps 20000\nrow 1 1\nfails 1 0/1\nfails 1 1/1\n";
-    let (code, sink) = said_of(alloc, "4 to 5", cert)?;
-    assert_eq!(rt;
-        (code, sink.written()),
-        (0, b"accepted refuted\n".as_slice())
-    );
-    for cut in 0..cert.len() {
-        let front = &cert[..cut];
-        let line = front.iter().filter(|byte| **byte == b'\n').count() + 1;
-        let want = format!(in alloc; "rejected line {line}\n")?;
-        let (code, sink) = said_of(alloc, "4 to 5", front)?;
-        assert_eq!(rt; (code, sink.written()), (9, want.as_bytes()), "{cut}");
+    let refuted =
+        "ato-certificate 1\nverdict refuted\nsteps 20000\nrow 1 1\nfails 1 0/1\nfails 1 1/1\n";
+    let built = "ato-certificate 1\nverdict built\nsteps 20000\npick 2\ncheck 1\nholds\nend\n";
+    for (asserted, cert, said) in [
+        ("4 to 5", refuted, "accepted refuted\n"),
+        ("2 to 4", built, "accepted built\n"),
+    ] {
+        let cert = cert.as_bytes();
+        let (code, sink) = said_of(alloc, asserted, cert)?;
+        assert_eq!(rt; (code, sink.written()), (0, said.as_bytes()));
+        for cut in 0..cert.len() {
+            let front = &cert[..cut];
+            let line = front.iter().filter(|byte| **byte == b'\n').count() + 1;
+            let want = format!(in alloc; "rejected line {line}\n")?;
+            let (code, sink) = said_of(alloc, asserted, front)?;
+            assert_eq!(rt; (code, sink.written()), (9, want.as_bytes()), "{cut}");
+        }
     }
     Ok(())
 }
