@@ -68,39 +68,50 @@ fn what_a_build_puts_is_accepted(rt: HostRuntime) -> Result<(), Fail> {
     Ok(())
 }
 
-#[test]
-fn a_row_of_another_kind_is_no_pick(rt: HostRuntime) -> Result<(), Fail> {
-    let alloc = rt.alloc();
+/// What a check gives where the first row is of another kind.
+fn said_of_two_kinds(alloc: Global, cert: &[u8]) -> Result<(u8, MemSink), NoMemory> {
     let text = source(alloc, "2 to 4")?;
     let rows = b"part,kind,x\nA,j,3\nB,k,3\n";
-    for (pick, code, want) in [(1, 9, "rejected line 4\n"), (2, 0, "accepted built\n")] {
-        let cert = format!(in alloc;
+    check_over(alloc, text.as_bytes(), rows, Some(cert), &[])
+}
+
+/// Picks, and the status with what is printed.
+const PICKS: &[(u32, u8, &str)] = &[(1, 9, "rejected line 4\n"), (2, 0, "accepted built\n")];
+
+#[test]
+fn a_row_of_another_kind_is_no_pick(rt: HostRuntime) -> Result<(), Fail> {
+    for (pick, code, want) in PICKS {
+        let cert = format!(in rt.alloc();
             "ato-certificate 1\nverdict built\nsteps 1\npick {pick}\ncheck 1\nholds\nend\n"
         )?;
-        let cert = Some(cert.as_bytes());
-        let (status, sink) = check_over(alloc, text.as_bytes(), rows, cert, &[])?;
-        assert_eq!(rt; (status, sink.written()), (code, want.as_bytes()), "{pick}");
+        let (status, sink) = said_of_two_kinds(rt.alloc(), cert.as_bytes())?;
+        assert_eq!(rt; status, *code, "{pick}");
+        assert_eq!(rt; sink.written(), want.as_bytes(), "{pick}");
     }
     Ok(())
 }
 
+/// What a check gives where the component has no part.
+fn said_without_slot(alloc: Global, cert: &[u8]) -> Result<(u8, MemSink), NoMemory> {
+    let source = b"component E:\n    pin 1\n";
+    check_over(alloc, source, b"part,kind\n", Some(cert), &[])
+}
+
+/// Texts after `verdict `, and the status with what is printed.
+const WITHOUT_SLOT: &[(&str, u8, &str)] = &[
+    ("built\nsteps 1\npick\nend\n", 0, "accepted built\n"),
+    ("built\nsteps 1\npick\n", 9, "rejected line 5\n"),
+    ("built\nsteps 1\npick 1\nend\n", 9, "rejected line 4\n"),
+    ("refuted\nsteps 1\nempty 1\n", 9, "rejected line 4\n"),
+];
+
 #[test]
 fn a_certificate_without_a_slot(rt: HostRuntime) -> Result<(), Fail> {
-    let source = b"component E:\n    pin 1\n";
-    for (lines, code, want) in [
-        ("built\nsteps 1\npick\nend\n", 0, "accepted built\n"),
-        ("built\nsteps 1\npick\n", 9, "rejected line 5\n"),
-        ("built\nsteps 1\npick 1\nend\n", 9, "rejected line 4\n"),
-        ("refuted\nsteps 1\nempty 1\n", 9, "rejected line 4\n"),
-    ] {
+    for (lines, code, want) in WITHOUT_SLOT {
         let cert = format!(in rt.alloc(); "ato-certificate 1\nverdict {lines}")?;
-        let cert = Some(cert.as_bytes());
-        let (status, sink) = check_over(rt.alloc(), source, b"part,kind\n", cert, &[])?;
-        assert_eq!(rt;
-            (status, sink.written()),
-            (code, want.as_bytes()),
-            "{lines}"
-        );
+        let (status, sink) = said_without_slot(rt.alloc(), cert.as_bytes())?;
+        assert_eq!(rt; status, *code, "{lines}");
+        assert_eq!(rt; sink.written(), want.as_bytes(), "{lines}");
     }
     Ok(())
 }
@@ -190,53 +201,86 @@ fn spoiled_certificates_name_their_first_bad_line(rt: HostRuntime) -> Result<(),
     Ok(())
 }
 
+const REFUTED: &str =
+    "ato-certificate 1\nverdict refuted\nsteps 20000\nrow 1 1\nfails 1 0/1\nfails 1 1/1\n";
+
+const BUILT: &str = "ato-certificate 1\nverdict built\nsteps 20000\npick 2\ncheck 1\nholds\nend\n";
+
+/// What is printed of so many bytes of a certificate, and what is to be.
+fn said_of_cut(
+    alloc: Global,
+    asserted: &str,
+    cert: &str,
+    cut: usize,
+) -> Result<(u8, MemSink, String), NoMemory> {
+    let front = match cert.as_bytes().get(..cut) {
+        Some(front) => front,
+        None => cert.as_bytes(),
+    };
+    let ends = front.iter().filter(|byte| **byte == b'\n').count();
+    let line = ends.min(1000) + 1;
+    let (code, sink) = said_of(alloc, asserted, front)?;
+    Ok((code, sink, format!(in alloc; "rejected line {line}\n")?))
+}
+
 #[test]
-fn each_cut_of_a_certificate_is_rejected(rt: HostRuntime) -> Result<(), Fail> {
-    let alloc = rt.alloc();
-    let refuted =
-        "ato-certificate 1\nverdict refuted\nsteps 20000\nrow 1 1\nfails 1 0/1\nfails 1 1/1\n";
-    let built = "ato-certificate 1\nverdict built\nsteps 20000\npick 2\ncheck 1\nholds\nend\n";
-    for (asserted, cert, said) in [
-        ("4 to 5", refuted, "accepted refuted\n"),
-        ("2 to 4", built, "accepted built\n"),
-    ] {
-        let cert = cert.as_bytes();
-        let (code, sink) = said_of(alloc, asserted, cert)?;
-        assert_eq!(rt; (code, sink.written()), (0, said.as_bytes()));
-        for cut in 0..cert.len() {
-            let front = &cert[..cut];
-            let line = front.iter().filter(|byte| **byte == b'\n').count() + 1;
-            let want = format!(in alloc; "rejected line {line}\n")?;
-            let (code, sink) = said_of(alloc, asserted, front)?;
-            assert_eq!(rt; (code, sink.written()), (9, want.as_bytes()), "{cut}");
-        }
+fn each_cut_of_a_refuted_certificate_is_rejected(rt: HostRuntime) -> Result<(), Fail> {
+    let (code, sink) = said_of(rt.alloc(), "4 to 5", REFUTED.as_bytes())?;
+    assert_eq!(rt;
+        (code, sink.written()),
+        (0, b"accepted refuted\n".as_slice())
+    );
+    for cut in 0..REFUTED.len() {
+        let (code, sink, want) = said_of_cut(rt.alloc(), "4 to 5", REFUTED, cut)?;
+        assert_eq!(rt; (code, sink.written()), (9, want.as_bytes()), "{cut}");
     }
     Ok(())
 }
 
 #[test]
+fn each_cut_of_a_built_certificate_is_rejected(rt: HostRuntime) -> Result<(), Fail> {
+    let (code, sink) = said_of(rt.alloc(), "2 to 4", BUILT.as_bytes())?;
+    assert_eq!(rt; (code, sink.written()), (0, b"accepted built\n".as_slice()));
+    for cut in 0..BUILT.len() {
+        let (code, sink, want) = said_of_cut(rt.alloc(), "2 to 4", BUILT, cut)?;
+        assert_eq!(rt; (code, sink.written()), (9, want.as_bytes()), "{cut}");
+    }
+    Ok(())
+}
+
+const GOOD: &str =
+    "component E:\n    pin 1\n    x: dimensionless\n    kind = \"k\"\n    assert x within 2 to 4\n";
+
+const ROWS: &str = "part,kind,x\nA,k,2\n";
+
+/// Sources and catalogues without a certificate, the number of the read that fails, and the status
+/// with what is printed.
+const FIRST_FAULTS: &[(&str, &str, u32, u8, &str)] = &[
+    (GOOD, ROWS, 9, 1, "fault F8 FileMissing word 3\n"),
+    (GOOD, ROWS, 3, 5, "read fault out.cert\n"),
+    (GOOD, ROWS, 2, 5, "read fault cat.csv\n"),
+    (GOOD, ROWS, 1, 5, "read fault main.ato\n"),
+    (GOOD, "part\n", 3, 1, "fault F20 NoHeader cat.csv:0:0\n"),
+    (ROWS, "part\n", 2, 1, "fault F6 Syntax main.ato:1:1\n"),
+];
+
+/// What a check gives without a certificate, where the read of this number fails.
+fn said_of_failing(
+    alloc: Global,
+    source: &str,
+    rows: &str,
+    fail: u32,
+) -> Result<(u8, MemSink), NoMemory> {
+    let fail = [fail];
+    check_over(alloc, source.as_bytes(), rows.as_bytes(), None, &fail)
+}
+
+#[test]
 fn the_first_file_with_a_fault_is_named(rt: HostRuntime) -> Result<(), Fail> {
-    let alloc = rt.alloc();
-    let good = source(alloc, "2 to 4")?;
-    let good = good.as_bytes();
-    let rows = b"part,kind,x\nA,k,2\n";
-    let bad = b"part\n";
-    for (source, rows, fail, code, want) in [
-        (good, rows.as_slice(), 9, 1, "fault F8 FileMissing word 3\n"),
-        (good, rows.as_slice(), 3, 5, "read fault out.cert\n"),
-        (good, rows.as_slice(), 2, 5, "read fault cat.csv\n"),
-        (good, rows.as_slice(), 1, 5, "read fault main.ato\n"),
-        (
-            good,
-            bad.as_slice(),
-            3,
-            1,
-            "fault F20 NoHeader cat.csv:0:0\n",
-        ),
-        (rows, bad.as_slice(), 2, 1, "fault F6 Syntax main.ato:1:1\n"),
-    ] {
-        let (status, sink) = check_over(alloc, source, rows, None, &[fail])?;
-        assert_eq!(rt; (status, sink.written()), (code, want.as_bytes()), "{want}");
+    for (source, rows, fail, code, want) in FIRST_FAULTS {
+        let (status, sink) = said_of_failing(rt.alloc(), source, rows, *fail)?;
+        assert_eq!(rt; status, *code, "{want}");
+        assert_eq!(rt; sink.written(), want.as_bytes(), "{want}");
     }
     Ok(())
 }
