@@ -1,3 +1,4 @@
 pub mod ClassLaws
 pub mod JoinedLaws
+pub mod StageLaws
 pub mod Tables

@@ -1,4 +1,5 @@
 pub mod Joined
+pub mod Stages
 pub mod Classes
 pub mod Lending
 pub mod Faults

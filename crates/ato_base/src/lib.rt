@@ -10,6 +10,7 @@ mod name_table;
 mod names;
 mod nets;
 mod places;
+mod stages;
 #[cfg(test)]
 mod tests;
 mod text;
@@ -23,5 +24,6 @@ pub use name_table::{Name, NameTable};
 pub use names::{is_keyword, is_name};
 pub use nets::{Comp, Net, NetList, NetPin, PartRow};
 pub use places::{FileId, Place, Span};
+pub use stages::{Stages, one_fault_stands};
 pub use text::Text;
 pub use tokens::{Token, TokenKind};

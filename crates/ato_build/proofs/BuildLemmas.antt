@@ -17,7 +17,11 @@ use Rattle.ato_build.specs.Decisions.{IsDecision}
 use Rattle.ato_build.specs.Entry.{source_limit, GivesBlock}
 use Rattle.ato_build.specs.Found.{Missing, Whole, HasFile}
 use Rattle.ato_build.specs.Headline.{Decides, Means, Headline, IsCaused}
-use Rattle.ato_build.specs.Input.{catalogue_limit}
+use Rattle.ato_build.specs.Boards.{board_of}
+use Rattle.ato_build.specs.Input.{Input, catalogue_limit}
+use Rattle.ato_build.specs.InputStages.{WithBoard}
+use Rattle.ato_build.proofs.InputLaws.{reached_at}
+use Rattle.ato_words.specs.declared.words.Task.TheVariants as tasks
 use Rattle.ato_build.specs.Outputs.{PutsInOrder}
 use Rattle.ato_build.specs.Printing.{Appends}
 use Rattle.ato_build.specs.Projects.{built_project, options_of}
@@ -64,20 +68,20 @@ caused Read Put (answers.Rejected line) r p = tt
 -- what a build of what was read decides
 pub decided : (words : List (List ℕ)) (held : Option Files) (build : Build) (project : Project) (options : Options) (sources : Sources) (status : Status) (outputs : List Output) (text : List ℕ)
     → IsBuild words build → built_project build ≡ project → options_of build ≡ options → AreSources held project sources
-    → ((contents : Contents) → ShowsContents sources.catalog contents → IsDecision options sources.block contents status outputs text) → Decides words held status outputs text
+    → ((contents : Contents) → ShowsContents sources.catalog contents → IsDecision options (board_of sources.block contents) status outputs text) → Decides words held status outputs text
 decided words held build project options sources status outputs text job same also read decision =
     let found = contents_read read.bytes sources.catalog read.read in
     let entry : HasFile held source_limit build.file (Whole sources.source) = subst (λ p. HasFile held source_limit p.file (Whole sources.source)) (sym same) read.entry in
     let catalogue : HasFile held catalogue_limit build.catalogue (Whole read.bytes) = subst (λ p. HasFile held catalogue_limit p.catalogue (Whole read.bytes)) (sym same) read.catalogue in
+    let input : Input = record { entry = Whole sources.source; catalogue = Whole read.bytes; certificate = Missing } in
     record {
       build = build;
       job = job;
-      input = record { entry = Whole sources.source; catalogue = Whole read.bytes; certificate = Missing };
-      read = record { sources = record { entry = entry; catalogue = catalogue }; certificate = refl };
-      block = sources.block;
-      contents = found.0;
-      gives = record { block_is = subst (λ p. GivesBlock p (Whole sources.source) sources.block) (sym same) read.gives; contents_are = found.1 };
-      decision = subst (λ o. IsDecision o sources.block found.0 status outputs text) (sym also) (decision found.0 found.2);
+      input = input;
+      read = record { entry = entry; catalogue = catalogue; certificate = refl };
+      board = board_of sources.block found.0;
+      gives = reached_at (tasks.Build build) input (WithBoard (board_of sources.block found.0)) (subst (λ p. GivesBlock p (Whole sources.source) sources.block) (sym same) read.gives, found.1);
+      decision = subst (λ o. IsDecision o (board_of sources.block found.0) status outputs text) (sym also) (decision found.0 found.2);
     }
 
 -- all files are put

@@ -26,7 +26,9 @@ use Rattle.ato_build.specs.Decisions.{IsDecision, net_output, cert_output}
 use Rattle.ato_build.specs.Entry.{source_limit, GivesBlock}
 use Rattle.ato_build.specs.Found.{Found, Missing, TooLong, Whole, found_of}
 use Rattle.ato_build.specs.Headline.{Headline}
-use Rattle.ato_build.specs.Input.{catalogue_limit, certificate_limit, GivesContents, Gives, certificate_of, input_of}
+use Rattle.ato_build.specs.Boards.{Board, IsValidOn}
+use Rattle.ato_build.specs.Input.{catalogue_limit, certificate_limit, GivesContents, certificate_of, input_of}
+use Rattle.ato_build.specs.InputStages.{WithBoard, WithCertificate, GivesCertificate}
 use Rattle.ato_build.specs.Problems.{IsValidFor}
 use Rattle.ato_build.specs.Projects.{built_project, checked_project, options_of}
 use Rattle.ato_build.specs.declared.outputs.Output.{Output}
@@ -35,6 +37,7 @@ use Rattle.ato_build.specs.declared.status.Status.{Status}
 use Rattle.ato_build.specs.declared.status.Status.TheVariants as answers
 use Rattle.ato_build.proofs.CheckLemmas.{few_enough}
 use Rattle.ato_build.proofs.HeadlineLaws.{accepted_where}
+use Rattle.ato_build.proofs.InputLaws.{IsGiven, given_at, reached_at}
 use Rattle.ato_build.proofs.OneProblemLaws.{small_problem}
 
 -- a catalogue has at most 1,000 rows
@@ -72,58 +75,56 @@ endings [] e = let bad : ⊥ = cc in bad
 endings (b ∷ out) e = let rest : out ++ codes ".net" ≡ out ++ codes ".cert" = cc in endings out rest
 
 -- what is put under the certificate's name
-record IsPutCertificate (part : Option Part) (contents : Contents) (output : Output) : Type 0 where
+record IsPutCertificate (board : Board) (output : Output) : Type 0 where
   cert : Cert
-  valid : IsValidFor part contents cert
+  valid : IsValidOn board cert
   bytes : output.bytes ≡ cert_text cert
 
-put_certificate : (options : Options) (block : Block) (contents : Contents) (status : Status) (outputs : List Output) (text : List ℕ) (output : Output) → IsDecision options block contents status outputs text
-    → Contains outputs output → output.name ≡ options.out ++ codes ".cert" → IsPutCertificate (part_of block.lines) contents output
-put_certificate options block contents answers.Built outputs text output (pick, d) h named =
-    elim (cases (net_output options d.list) output (cert_output options d.cert ∷ []) (subst (λ l. Contains l output) d.outputs_are h)) [
+put_certificate : (options : Options) (board : Board) (status : Status) (outputs : List Output) (text : List ℕ) (output : Output) → IsDecision options board status outputs text
+    → Contains outputs output → output.name ≡ options.out ++ codes ".cert" → IsPutCertificate board output
+put_certificate options board answers.Built outputs text output (pick, d) h named =
+    elim (cases (net_output options d.puts.list) output (cert_output options d.cert ∷ []) (subst (λ l. Contains l output) d.puts.outputs_are h)) [
       | inl net ↦ absurd (endings options.out (ap (λ (o : Output). o.name) (sym net) ∙ named))
       | inr more ↦ record { cert = d.cert; valid = d.cert_is.valid; bytes = ap (λ (o : Output). o.bytes) (only (cert_output options d.cert) output more) }
     ]
-put_certificate options block contents answers.Refuted outputs text output d h named =
-    record { cert = d.cert; valid = d.cert_is.valid; bytes = ap (λ (o : Output). o.bytes) (only (cert_output options d.cert) output (subst (λ l. Contains l output) d.outputs_are h)) }
-put_certificate options block contents answers.Accepted outputs text output d h named = absurd d
-put_certificate options block contents (answers.Fault f) outputs text output d h named = absurd d
-put_certificate options block contents answers.ReadFault outputs text output d h named = absurd d
-put_certificate options block contents answers.WriteFault outputs text output d h named = absurd d
-put_certificate options block contents answers.Usage outputs text output d h named = absurd d
-put_certificate options block contents answers.NoMemory outputs text output d h named = absurd d
-put_certificate options block contents (answers.Rejected line) outputs text output d h named = absurd d
+put_certificate options board answers.Refuted outputs text output d h named =
+    record { cert = d.cert; valid = d.cert_is.valid; bytes = ap (λ (o : Output). o.bytes) (only (cert_output options d.cert) output (subst (λ l. Contains l output) d.puts.outputs_are h)) }
+put_certificate options board status outputs text output d h named = absurd d
 
 -- ---- the check of it
 
 module _ (files : Files) (check : Check) (b : IsBuiltCertificate files check) where
   -- the files of the build's project are those of the check's
   same_entry : b.decides.input.entry ≡ found_of source_limit (get files check.file)
-  same_entry =
-      sym b.decides.read.sources.entry ∙ ap (λ p. found_of source_limit (get b.before p.file)) b.project ∙ ap (found_of source_limit) b.entry
+  same_entry = sym b.decides.read.entry ∙ ap (λ p. found_of source_limit (get b.before p.file)) b.project ∙ ap (found_of source_limit) b.entry
 
   same_catalogue : b.decides.input.catalogue ≡ found_of catalogue_limit (get files check.catalogue)
-  same_catalogue =
-      sym b.decides.read.sources.catalogue ∙ ap (λ p. found_of catalogue_limit (get b.before p.catalogue)) b.project ∙ ap (found_of catalogue_limit) b.catalogue
+  same_catalogue = sym b.decides.read.catalogue ∙ ap (λ p. found_of catalogue_limit (get b.before p.catalogue)) b.project ∙ ap (found_of catalogue_limit) b.catalogue
 
-  gives_check : Gives (checked_project check) (input_of files (tasks.Check check)) b.decides.block b.decides.contents
-  gives_check = record {
-    block_is = subst (λ p. GivesBlock p (found_of source_limit (get files check.file)) b.decides.block) b.project
-        (subst (λ e. GivesBlock (built_project b.decides.build) e b.decides.block) same_entry b.decides.gives.block_is);
-    contents_are = subst (λ c. GivesContents c b.decides.contents) same_catalogue b.decides.gives.contents_are;
-  }
+  given : IsGiven (tasks.Build b.decides.build) b.decides.input (WithBoard b.decides.board)
+  given = given_at (tasks.Build b.decides.build) b.decides.input (WithBoard b.decides.board) b.decides.gives
 
-  put : IsPutCertificate (part_of b.decides.block.lines) b.decides.contents b.output
-  put = put_certificate (options_of b.decides.build) b.decides.block b.decides.contents b.status b.outputs b.summary b.output b.decides.decision b.is_put b.named
+  block_given : GivesBlock (checked_project check) (found_of source_limit (get files check.file)) b.decides.board.block
+  block_given = subst (λ p. GivesBlock p (found_of source_limit (get files check.file)) b.decides.board.block) b.project
+      (subst (λ e. GivesBlock (built_project b.decides.build) e b.decides.board.block) same_entry given.0)
+
+  contents_given : GivesContents (found_of catalogue_limit (get files check.catalogue)) b.decides.board.contents
+  contents_given = subst (λ c. GivesContents c b.decides.board.contents) same_catalogue given.1
+
+  put : IsPutCertificate b.decides.board b.output
+  put = put_certificate (options_of b.decides.build) b.decides.board b.status b.outputs b.summary b.output b.decides.decision b.is_put b.named
 
   whole : certificate_of files (tasks.Check check) ≡ Whole (cert_text put.cert)
   whole =
-      let long = within_limit (part_of b.decides.block.lines) b.decides.contents put.cert (few_rows b.decides.input.catalogue b.decides.contents b.decides.gives.contents_are) put.valid in
+      let long = within_limit (part_of b.decides.board.block.lines) b.decides.board.contents put.cert (few_rows b.decides.input.catalogue b.decides.board.contents given.1) put.valid in
       whole_found certificate_limit (get files check.cert) (cert_text put.cert) (b.certificate ∙ ap Some put.bytes) (omega (arith, long))
+
+  gives_check : GivesCertificate check (input_of files (tasks.Check check)) b.decides.board (cert_text put.cert)
+  gives_check = reached_at (tasks.Check check) (input_of files (tasks.Check check)) (WithCertificate b.decides.board (cert_text put.cert)) (block_given, contents_given, whole)
 
 -- What a build put as its certificate a check of the same project accepts, unless memory or something outside fails.
 pub built_accepted : (words : List (List ℕ)) (held old new : Option Files) (before now : Option (List ℕ)) (status : Status) → Headline words held old new before now status
     → IfSome held (λ files. (check : Check) → IsCheck words check → IsBuiltCertificate files check → (status ≡ answers.Accepted) ⊎ EndsOutside status)
 built_accepted words None old new before now status h = tt
 built_accepted words (Some files) old new before now status h = λ check job b.
-    accepted_where words (Some files) old new before now status h check b.decides.block b.decides.contents (put files check b).cert job (gives_check files check b) (whole files check b) (put files check b).valid
+    accepted_where words (Some files) old new before now status h check b.decides.board (put files check b).cert job (gives_check files check b) (put files check b).valid

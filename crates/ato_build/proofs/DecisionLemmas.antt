@@ -26,8 +26,8 @@ use Rattle.ato_cert.specs.declared.cert.Verdict.{Verdict}
 use Rattle.ato_cert.specs.declared.cert.Verdict.TheVariants as verdicts
 use Rattle.ato_base.specs.declared.memory.NoMemory.{NoMemory}
 use Rattle.ato_lexer.specs.declared.first_form.Block.{Block}
-use Rattle.ato_build.specs.Decisions.{IsDecision}
-use Rattle.ato_build.specs.DecisionParts.{PutsBuilt, PutsRefuted}
+use Rattle.ato_build.specs.Boards.{board_of, IsProblemOf}
+use Rattle.ato_build.specs.Decisions.{PutsBuilt, PutsRefuted, IsDecision}
 use Rattle.ato_build.specs.declared.decisions.Decision.{Decision}
 use Rattle.ato_build.specs.declared.status.Status.TheVariants as answers
 use Rattle.ato_build.specs.declared.project.Options.{Options}
@@ -190,48 +190,42 @@ picked_value block catalog pick number row some is found contents shows =
 
 -- a pick that the certificate has built
 pub built_decided : (options : Options) (block : Block) (catalog : Catalog) (problem : Problem) (cert : Cert) (pick numbers : List ℕ) (boxes : List BoxTree) (result : Result Decision NoMemory)
-    → ((contents : Contents) → ShowsContents catalog contents → IsProblem (part_of block.lines) contents problem) → IsValid problem cert → cert.steps ≡ options.steps → searches.Decides problem cert.proof
-    → cert.proof ≡ proofs.Built pick boxes → numbers ≡ pick → IfOk result (λ d. d.status ≡ answers.Built) → IfOk result (λ d. (contents : Contents) → ShowsContents catalog contents → PutsBuilt options block contents numbers cert d)
-    → IfOk result (λ d. (contents : Contents) → ShowsContents catalog contents → IsDecision options block contents d.status d.outputs.items (string_bytes d.summary))
+    → ((contents : Contents) → ShowsContents catalog contents → IsProblemOf (board_of block contents) problem) → IsValid problem cert → cert.steps ≡ options.steps → searches.Decides problem cert.proof
+    → cert.proof ≡ proofs.Built pick boxes → numbers ≡ pick → IfOk result (λ d. d.status ≡ answers.Built)
+    → IfOk result (λ d. (contents : Contents) → ShowsContents catalog contents → PutsBuilt options (board_of block contents) numbers cert d.outputs.items (string_bytes d.summary))
+    → IfOk result (λ d. (contents : Contents) → ShowsContents catalog contents → IsDecision options (board_of block contents) d.status d.outputs.items (string_bytes d.summary))
 built_decided options block catalog problem cert pick numbers boxes (Err e) is valid steps decides built same status puts = tt
 built_decided options block catalog problem cert pick numbers boxes (Ok d) is valid steps decides built same status puts = λ contents shows.
-    let put : PutsBuilt options block contents pick cert d = subst (λ p. PutsBuilt options block contents p cert d) same (puts contents shows) in
     let first : problems.IsFirstGood problem pick = subst (searches.Decides problem) built decides in
-    subst (λ s. IsDecision options block contents s d.outputs.items (string_bytes d.summary)) (sym status) (
+    subst (λ s. IsDecision options (board_of block contents) s d.outputs.items (string_bytes d.summary)) (sym status) (
       pick,
       record {
         good = good_pick (part_of block.lines) contents problem pick (is contents shows) (first_is_good problem pick first);
         first = first_pick (part_of block.lines) contents problem pick (is contents shows) first;
-        list = put.list;
-        list_is = put.list_is;
         cert = cert;
         cert_is = record { valid = record { problem = problem; is_problem = is contents shows; valid = valid }; steps_are = steps };
         boxes = boxes;
         proof = built;
-        outputs_are = put.outputs_are;
-        text_is = put.text_is;
+        puts = subst (λ p. PutsBuilt options (board_of block contents) p cert d.outputs.items (string_bytes d.summary)) same (puts contents shows);
       },
     )
 
 -- picks that the certificate has refuted
 pub refuted_decided : (options : Options) (block : Block) (catalog : Catalog) (problem : Problem) (cert : Cert) (verdict : Verdict) (tree : PickTree) (result : Result Decision NoMemory)
-    → ((contents : Contents) → ShowsContents catalog contents → IsProblem (part_of block.lines) contents problem) → IsValid problem cert → cert.steps ≡ options.steps → searches.Decides problem cert.proof
-    → cert.proof ≡ proofs.Tree verdict tree → IfOk result (λ d. d.status ≡ answers.Refuted) → IfOk result (λ d. (contents : Contents) → PutsRefuted options block contents cert d)
-    → IfOk result (λ d. (contents : Contents) → ShowsContents catalog contents → IsDecision options block contents d.status d.outputs.items (string_bytes d.summary))
+    → ((contents : Contents) → ShowsContents catalog contents → IsProblemOf (board_of block contents) problem) → IsValid problem cert → cert.steps ≡ options.steps → searches.Decides problem cert.proof
+    → cert.proof ≡ proofs.Tree verdict tree → IfOk result (λ d. d.status ≡ answers.Refuted)
+    → IfOk result (λ d. (contents : Contents) → PutsRefuted options (board_of block contents) cert d.outputs.items (string_bytes d.summary))
+    → IfOk result (λ d. (contents : Contents) → ShowsContents catalog contents → IsDecision options (board_of block contents) d.status d.outputs.items (string_bytes d.summary))
 refuted_decided options block catalog problem cert verdict tree (Err e) is valid steps decides refuted status puts = tt
 refuted_decided options block catalog problem cert verdicts.Refuted tree (Ok d) is valid steps decides refuted status puts = λ contents shows.
-    let put : PutsRefuted options block contents cert d = puts contents in
     let none : problems.NoGood problem = subst (searches.Decides problem) refuted decides in
-    subst (λ s. IsDecision options block contents s d.outputs.items (string_bytes d.summary)) (sym status) (record {
+    subst (λ s. IsDecision options (board_of block contents) s d.outputs.items (string_bytes d.summary)) (sym status) (record {
       none_good = no_good_pick (part_of block.lines) contents problem (is contents shows) none;
-      list = put.list;
-      list_is = put.list_is;
       cert = cert;
       cert_is = record { valid = record { problem = problem; is_problem = is contents shows; valid = valid }; steps_are = steps };
       tree = tree;
       proof = refuted;
-      outputs_are = put.outputs_are;
-      text_is = put.text_is;
+      puts = puts contents;
     })
 
 -- a certificate with few nodes

@@ -3,6 +3,7 @@ use Rattle.std.proofs.Common.{◌≡◌, [], ◌∷◌, ◌++◌, refl, arith}
 use Rattle.std.specs.Prelude.{ℕ, List, codes, Option, Some, None}
 use Rattle.std.specs.Fmt.{digits}
 use Rattle.ato_base.specs.declared.faults.FaultKind.TheVariants as kinds
+use Rattle.ato_base.specs.declared.places.Place.TheVariants as places
 use Rattle.ato_lexer.specs.declared.first_form.Block.{Block}
 use Rattle.ato_base.specs.Classes.{no_class, a_class, no_point, related}
 use Rattle.ato_base.specs.Joined.{same, along, against}
@@ -17,7 +18,7 @@ use Rattle.ato_first.specs.FirstParts.{part_of, candidates}
 use Rattle.ato_catalog.specs.Rows.{PlainRow}
 use Rattle.ato_first.specs.FirstPoints.{IsJoinedByLine}
 use Rattle.ato_writers.specs.Netlists.{list_text, comp_text, net_text, node_text, field, quoted}
-use Rattle.ato_build.specs.Texts.{column_at, fault_text, accepted_text, rejected_text, place_in_text, word_text}
+use Rattle.ato_build.specs.Texts.{column_at, files_with, also_text, fault_text, accepted_text, rejected_text, place_in_text, word_text}
 use Rattle.ato_build.specs.declared.project.Project.{Project}
 
 -- ---- a block with no pin
@@ -81,14 +82,21 @@ abbrev main_project : Project
 main_project = record { file = codes "main.ato"; block = codes "T"; catalogue = codes "parts.csv" }
 
 -- The entry file is not there.
-pub missing_file : fault_text main_project [] (word_fault kinds.FileMissing 1) ≡ codes "fault F8 FileMissing word 1\n"
-unfolding fault_text word_text digits
+pub missing_file : fault_text (files_with main_project []) (word_fault kinds.FileMissing 1) ≡ codes "fault F8 FileMissing word 1\n"
+unfolding fault_text also_text word_text digits
 missing_file = refl
 
 -- The second line begins with a tab, at byte 13.
-pub bad_line : fault_text main_project (codes "component T:\n\tpin 1\n") (syntax_fault entry_file 13) ≡ codes "fault F6 Syntax main.ato:2:1\n"
-unfolding fault_text place_in_text digits
+pub bad_line : fault_text (files_with main_project (codes "component T:\n\tpin 1\n")) (syntax_fault entry_file 13) ≡ codes "fault F6 Syntax main.ato:2:1\n"
+unfolding fault_text also_text place_in_text digits
 bad_line = refl
+
+-- A fault with a second place names both.
+pub two_places : fault_text (files_with main_project (codes "a\nb\n"))
+    (record { kind = kinds.DefinitionLoop; at = places.Source (record { file = entry_file; start = 0; end = 1 }); other = Some (places.Source (record { file = entry_file; start = 2; end = 3 })); path = [] })
+    ≡ codes "fault F28 DefinitionLoop main.ato:1:1 also main.ato:2:1\n"
+unfolding fault_text also_text place_in_text digits
+two_places = refl
 
 -- The two texts of a check.
 pub accepted : accepted_text (codes "refuted") ≡ codes "accepted refuted\n"

@@ -2,31 +2,27 @@
 use Rattle.std.proofs.Common.{◌≡◌, ℕ, List, inl, inr, sym, ◌∙◌, ap, refl, subst, arith}
 use Rattle.std.specs.Prelude.{Option, Some, None, IfSome, ◌⊎◌}
 use Rattle.ato_base.specs.declared.faults.Fault.{Fault}
-use Rattle.ato_lexer.specs.declared.first_form.Block.{Block}
-use Rattle.ato_catalog.specs.Contents.{Contents}
 use Rattle.ato_outside.specs.Files.{Files}
 use Rattle.ato_outside.specs.Causes.{Rose}
 use Rattle.ato_words.proofs.WordLaws.{one_build, one_job}
+use Rattle.ato_build.specs.Boards.{Board, IsGood, NoGood, IsValidOn}
 use Rattle.ato_build.specs.Causes.{EndsOutside, IsEnd, IsVerdict, IsDone, IsRejected}
-use Rattle.ato_first.specs.FirstParts.{part_of, IsGoodPick, NoGoodPick}
-use Rattle.ato_build.specs.Found.{Found, Whole}
+use Rattle.ato_build.specs.Found.{Found}
 use Rattle.ato_build.specs.Headline.{Decides, Judges, Headline}
-use Rattle.ato_build.specs.Input.{Input, HasCertificate, HasInput, Gives, Stands, certificate_of, input_of}
+use Rattle.ato_build.specs.Input.{Input, HasCertificate, HasInput, certificate_of, input_of}
+use Rattle.ato_build.specs.InputStages.{Stage, WithBoard, WithCertificate, IsReached, Stands, GivesBoard, GivesCertificate}
 use Rattle.ato_build.specs.Judgements.{IsNoValidCertificate}
-use Rattle.ato_build.specs.Problems.{IsValidFor}
-use Rattle.ato_build.specs.Projects.{built_project, checked_project, project_of}
 use Rattle.ato_words.specs.Words.{IsBuild, IsCheck, IsJob, IsNoJob}
 use Rattle.ato_words.specs.declared.words.Build.{Build}
 use Rattle.ato_words.specs.declared.words.Check.{Check}
 use Rattle.ato_words.specs.declared.words.Task.{Task}
-use Rattle.ato_build.specs.declared.project.Project.{Project}
 use Rattle.ato_cert.specs.Texts.{cert_text}
 use Rattle.ato_cert.specs.declared.cert.Cert.{Cert}
 use Rattle.ato_words.specs.declared.words.Task.TheVariants as tasks
 use Rattle.ato_build.specs.declared.outputs.Output.{Output}
 use Rattle.ato_build.specs.declared.status.Status.{Status}
 use Rattle.ato_build.specs.declared.status.Status.TheVariants as answers
-use Rattle.ato_build.proofs.InputLaws.{one_given_block, one_given_contents, stands_once, build_no_fault, check_no_fault}
+use Rattle.ato_build.proofs.InputLaws.{one_board, one_certificate, stands_once, build_no_fault, check_no_fault}
 
 -- ---- the other direction
 
@@ -51,33 +47,29 @@ same_certificate files (tasks.Check check) found has = sym has
 -- the input that the files have is the one that they are known to have
 same_input : (files : Files) (a b : Task) (input : Input) → a ≡ b → HasInput (Some files) a input → input ≡ input_of files b
 same_input files a b input same has =
-    ap (λ e. record { entry = e; catalogue = input.catalogue; certificate = input.certificate }) (sym has.sources.entry)
-    ∙ ap (λ c. record { entry = (input_of files a).entry; catalogue = c; certificate = input.certificate }) (sym has.sources.catalogue)
+    ap (λ e. record { entry = e; catalogue = input.catalogue; certificate = input.certificate }) (sym has.entry)
+    ∙ ap (λ c. record { entry = (input_of files a).entry; catalogue = c; certificate = input.certificate }) (sym has.catalogue)
     ∙ ap (λ c. record { entry = (input_of files a).entry; catalogue = (input_of files a).catalogue; certificate = c }) (same_certificate files a input.certificate has.certificate)
     ∙ ap (input_of files) same
 
 stands_here : (files : Files) (a b : Task) (input : Input) (f : Fault) → a ≡ b → HasInput (Some files) a input → Stands a input f → Stands b (input_of files b) f
 stands_here files a b input f same has stands = subst (λ i. Stands b i f) (same_input files a b input same has) (subst (λ task. Stands task input f) same stands)
 
-gives_here : (files : Files) (a b : Task) (input : Input) (block : Block) (contents : Contents) → a ≡ b → HasInput (Some files) a input → Gives (project_of a) input block contents
-    → Gives (project_of b) (input_of files b) block contents
-gives_here files a b input block contents same has gives =
-    subst (λ i. Gives (project_of b) i block contents) (same_input files a b input same has) (subst (λ task. Gives (project_of task) input block contents) same gives)
+reached_here : (files : Files) (a b : Task) (input : Input) (stage : Stage) → a ≡ b → HasInput (Some files) a input → IsReached a input stage → IsReached b (input_of files b) stage
+reached_here files a b input stage same has reached = subst (λ i. IsReached b i stage) (same_input files a b input same has) (subst (λ task. IsReached task input stage) same reached)
 
 -- what is decided of files that are told comes of their input
 decided_here : (words : List (List ℕ)) (files : Files) (status : Status) (outputs : List Output) (text : List ℕ) (build : Build) → IsBuild words build → (d : Decides words (Some files) status outputs text)
-    → Gives (built_project build) (input_of files (tasks.Build build)) d.block d.contents
+    → GivesBoard (tasks.Build build) (input_of files (tasks.Build build)) d.board
 decided_here words files status outputs text build job d =
-    gives_here files (tasks.Build d.build) (tasks.Build build) d.input d.block d.contents (ap tasks.Build (one_build words d.build build d.job job)) d.read d.gives
+    reached_here files (tasks.Build d.build) (tasks.Build build) d.input (WithBoard d.board) (ap tasks.Build (one_build words d.build build d.job job)) d.read d.gives
 
 -- what is found of a certificate comes of their input, too
 judged_here : (words : List (List ℕ)) (files : Files) (status : Status) (text : List ℕ) (check : Check) → IsCheck words check → (j : Judges words (Some files) status text)
-    → Gives (checked_project check) (input_of files (tasks.Check check)) j.block j.contents × (certificate_of files (tasks.Check check) ≡ Whole j.bytes)
+    → GivesCertificate check (input_of files (tasks.Check check)) j.board j.bytes
 judged_here words files status text check job j =
-    let same : tasks.Check j.check ≡ tasks.Check check = one_job words (tasks.Check j.check) (tasks.Check check) j.job job in (
-      gives_here files (tasks.Check j.check) (tasks.Check check) j.input j.block j.contents same j.read j.gives,
-      ap (λ i. i.certificate) (sym (same_input files (tasks.Check j.check) (tasks.Check check) j.input same j.read)) ∙ j.whole,
-    )
+    let same : tasks.Check j.check ≡ tasks.Check check = one_job words (tasks.Check j.check) (tasks.Check check) j.job job in
+    reached_here files (tasks.Check j.check) (tasks.Check check) j.input (WithCertificate j.board j.bytes) same j.read j.gives
 
 -- words of two commands
 two_commands : (words : List (List ℕ)) (build : Build) (check : Check) → IsBuild words build → IsCheck words check → ⊥
@@ -87,15 +79,14 @@ two_commands words build check h k = let same : tasks.Build build ≡ tasks.Chec
 decided_no_fault : (words : List (List ℕ)) (files : Files) (status : Status) (outputs : List Output) (text : List ℕ) (task : Task) (f : Fault) → IsJob words task → Decides words (Some files) status outputs text
     → Stands task (input_of files task) f → ⊥
 decided_no_fault words files status outputs text (tasks.Build build) f job d stands =
-    build_no_fault build (input_of files (tasks.Build build)) d.block d.contents f (decided_here words files status outputs text build job d) stands
+    build_no_fault build (input_of files (tasks.Build build)) d.board f (decided_here words files status outputs text build job d) stands
 decided_no_fault words files status outputs text (tasks.Check check) f job d stands = two_commands words d.build check d.job job
 
 judged_no_fault : (words : List (List ℕ)) (files : Files) (status : Status) (text : List ℕ) (task : Task) (f : Fault) → IsJob words task → Judges words (Some files) status text
     → Stands task (input_of files task) f → ⊥
 judged_no_fault words files status text (tasks.Build build) f job j stands = two_commands words build j.check job j.job
 judged_no_fault words files status text (tasks.Check check) f job j stands =
-    let here = judged_here words files status text check job j in
-    check_no_fault check (input_of files (tasks.Check check)) j.block j.contents j.bytes f here.0 here.1 stands
+    check_no_fault check (input_of files (tasks.Check check)) j.board j.bytes f (judged_here words files status text check job j) stands
 
 -- A fault that stands is the answer, unless memory or something outside fails.
 pub fault_where : (words : List (List ℕ)) (held old new : Option Files) (before now : Option (List ℕ)) (status : Status) → Headline words held old new before now status
@@ -112,109 +103,108 @@ fault_where words (Some files) old new before now answers.Usage h = λ task f jo
 fault_where words (Some files) old new before now answers.NoMemory h = λ task f job stands. inr (inr (inl refl))
 fault_where words (Some files) old new before now (answers.Rejected line) h = λ task f job stands. absurd (judged_no_fault words files (answers.Rejected line) h.0 task f job h.1.0 stands)
 
--- the decided picks are those of the input's block and catalogue
-good_here : (project : Project) (input : Input) (a b : Block) (c d : Contents) (pick : List ℕ) → Gives project input a c → Gives project input b d → IsGoodPick (part_of a.lines) c pick → IsGoodPick (part_of b.lines) d pick
-good_here project input a b c d pick h k good =
-    subst (λ contents. IsGoodPick (part_of b.lines) contents pick) (one_given_contents input.catalogue c d h.contents_are k.contents_are)
-    (subst (λ block. IsGoodPick (part_of block.lines) c pick) (one_given_block project input.entry a b h.block_is k.block_is) good)
+-- ---- builds
 
--- a fault of words that are a build, whose input gives a block and contents
-no_build_fault : (words : List (List ℕ)) (files : Files) (build : Build) (block : Block) (contents : Contents) (task : Task) (input : Input) (f : Fault) → IsBuild words build
-    → Gives (built_project build) (input_of files (tasks.Build build)) block contents → IsJob words task → HasInput (Some files) task input → Stands task input f → ⊥
-no_build_fault words files build block contents task input f job gives other has stands =
-    build_no_fault build (input_of files (tasks.Build build)) block contents f gives
+-- a fault of words that are a build, whose input gives a board
+no_build_fault : (words : List (List ℕ)) (files : Files) (build : Build) (board : Board) (task : Task) (input : Input) (f : Fault) → IsBuild words build
+    → GivesBoard (tasks.Build build) (input_of files (tasks.Build build)) board → IsJob words task → HasInput (Some files) task input → Stands task input f → ⊥
+no_build_fault words files build board task input f job gives other has stands =
+    build_no_fault build (input_of files (tasks.Build build)) board f gives
     (stands_here files task (tasks.Build build) input f (one_job words task (tasks.Build build) other job) has stands)
+
+-- what is decided is decided of the board that is given
+decided_board : (words : List (List ℕ)) (files : Files) (status : Status) (outputs : List Output) (text : List ℕ) (build : Build) (board : Board) → IsBuild words build → (d : Decides words (Some files) status outputs text)
+    → GivesBoard (tasks.Build build) (input_of files (tasks.Build build)) board → d.board ≡ board
+decided_board words files status outputs text build board job d gives =
+    one_board build (input_of files (tasks.Build build)) d.board board (decided_here words files status outputs text build job d) gives
 
 -- Where a pick is good, one is built, unless memory or something outside fails.
 pub built_where : (words : List (List ℕ)) (held old new : Option Files) (before now : Option (List ℕ)) (status : Status) → Headline words held old new before now status
-    → IfSome held (λ files. (build : Build) (block : Block) (contents : Contents) (pick : List ℕ) → IsBuild words build → Gives (built_project build) (input_of files (tasks.Build build)) block contents
-    → IsGoodPick (part_of block.lines) contents pick → (status ≡ answers.Built) ⊎ EndsOutside status)
+    → IfSome held (λ files. (build : Build) (board : Board) (pick : List ℕ) → IsBuild words build → GivesBoard (tasks.Build build) (input_of files (tasks.Build build)) board
+    → IsGood board pick → (status ≡ answers.Built) ⊎ EndsOutside status)
 built_where words None old new before now status h = tt
-built_where words (Some files) old new before now answers.Built h = λ build block contents pick job gives good. inl refl
-built_where words (Some files) old new before now answers.Accepted h = λ build block contents pick job gives good. absurd (two_commands words build h.1.0.check job h.1.0.job)
-built_where words (Some files) old new before now answers.Refuted h = λ build block contents pick job gives good.
-    let here = decided_here words files answers.Refuted h.1.outputs h.0 build job h.1.decides in
-    absurd (h.1.decides.decision.none_good pick (good_here (built_project build) (input_of files (tasks.Build build)) block h.1.decides.block contents h.1.decides.contents pick gives here good))
-built_where words (Some files) old new before now (answers.Fault f) h = λ build block contents pick job gives good.
-    absurd (no_build_fault words files build block contents h.1.task h.1.input f job gives h.1.job h.1.read h.1.stands)
-built_where words (Some files) old new before now answers.ReadFault h = λ build block contents pick job gives good. inr (inl refl)
-built_where words (Some files) old new before now answers.WriteFault h = λ build block contents pick job gives good. inr (inr (inr refl))
-built_where words (Some files) old new before now answers.Usage h = λ build block contents pick job gives good. absurd (h.1.0 (tasks.Build build) job)
-built_where words (Some files) old new before now answers.NoMemory h = λ build block contents pick job gives good. inr (inr (inl refl))
-built_where words (Some files) old new before now (answers.Rejected line) h = λ build block contents pick job gives good. absurd (two_commands words build h.1.0.check job h.1.0.job)
+built_where words (Some files) old new before now answers.Built h = λ build board pick job gives good. inl refl
+built_where words (Some files) old new before now answers.Accepted h = λ build board pick job gives good. absurd (two_commands words build h.1.0.check job h.1.0.job)
+built_where words (Some files) old new before now answers.Refuted h = λ build board pick job gives good.
+    let same = decided_board words files answers.Refuted h.1.outputs h.0 build board job h.1.decides gives in
+    absurd (h.1.decides.decision.none_good pick (subst (λ b. IsGood b pick) (sym same) good))
+built_where words (Some files) old new before now (answers.Fault f) h = λ build board pick job gives good.
+    absurd (no_build_fault words files build board h.1.task h.1.input f job gives h.1.job h.1.read h.1.stands)
+built_where words (Some files) old new before now answers.ReadFault h = λ build board pick job gives good. inr (inl refl)
+built_where words (Some files) old new before now answers.WriteFault h = λ build board pick job gives good. inr (inr (inr refl))
+built_where words (Some files) old new before now answers.Usage h = λ build board pick job gives good. absurd (h.1.0 (tasks.Build build) job)
+built_where words (Some files) old new before now answers.NoMemory h = λ build board pick job gives good. inr (inr (inl refl))
+built_where words (Some files) old new before now (answers.Rejected line) h = λ build board pick job gives good. absurd (two_commands words build h.1.0.check job h.1.0.job)
 
 -- Where no pick is good, that is the answer, unless memory or something outside fails.
 pub refuted_where : (words : List (List ℕ)) (held old new : Option Files) (before now : Option (List ℕ)) (status : Status) → Headline words held old new before now status
-    → IfSome held (λ files. (build : Build) (block : Block) (contents : Contents) → IsBuild words build → Gives (built_project build) (input_of files (tasks.Build build)) block contents
-    → NoGoodPick (part_of block.lines) contents → (status ≡ answers.Refuted) ⊎ EndsOutside status)
+    → IfSome held (λ files. (build : Build) (board : Board) → IsBuild words build → GivesBoard (tasks.Build build) (input_of files (tasks.Build build)) board
+    → NoGood board → (status ≡ answers.Refuted) ⊎ EndsOutside status)
 refuted_where words None old new before now status h = tt
-refuted_where words (Some files) old new before now answers.Built h = λ build block contents job gives none.
-    let here = decided_here words files answers.Built h.1.outputs h.0 build job h.1.decides in
-    absurd (none h.1.decides.decision.0 (good_here (built_project build) (input_of files (tasks.Build build)) h.1.decides.block block h.1.decides.contents contents h.1.decides.decision.0 here gives h.1.decides.decision.1.good))
-refuted_where words (Some files) old new before now answers.Accepted h = λ build block contents job gives none. absurd (two_commands words build h.1.0.check job h.1.0.job)
-refuted_where words (Some files) old new before now answers.Refuted h = λ build block contents job gives none. inl refl
-refuted_where words (Some files) old new before now (answers.Fault f) h = λ build block contents job gives none.
-    absurd (no_build_fault words files build block contents h.1.task h.1.input f job gives h.1.job h.1.read h.1.stands)
-refuted_where words (Some files) old new before now answers.ReadFault h = λ build block contents job gives none. inr (inl refl)
-refuted_where words (Some files) old new before now answers.WriteFault h = λ build block contents job gives none. inr (inr (inr refl))
-refuted_where words (Some files) old new before now answers.Usage h = λ build block contents job gives none. absurd (h.1.0 (tasks.Build build) job)
-refuted_where words (Some files) old new before now answers.NoMemory h = λ build block contents job gives none. inr (inr (inl refl))
-refuted_where words (Some files) old new before now (answers.Rejected line) h = λ build block contents job gives none. absurd (two_commands words build h.1.0.check job h.1.0.job)
+refuted_where words (Some files) old new before now answers.Built h = λ build board job gives none.
+    let same = decided_board words files answers.Built h.1.outputs h.0 build board job h.1.decides gives in
+    absurd (none h.1.decides.decision.0 (subst (λ b. IsGood b h.1.decides.decision.0) same h.1.decides.decision.1.good))
+refuted_where words (Some files) old new before now answers.Accepted h = λ build board job gives none. absurd (two_commands words build h.1.0.check job h.1.0.job)
+refuted_where words (Some files) old new before now answers.Refuted h = λ build board job gives none. inl refl
+refuted_where words (Some files) old new before now (answers.Fault f) h = λ build board job gives none.
+    absurd (no_build_fault words files build board h.1.task h.1.input f job gives h.1.job h.1.read h.1.stands)
+refuted_where words (Some files) old new before now answers.ReadFault h = λ build board job gives none. inr (inl refl)
+refuted_where words (Some files) old new before now answers.WriteFault h = λ build board job gives none. inr (inr (inr refl))
+refuted_where words (Some files) old new before now answers.Usage h = λ build board job gives none. absurd (h.1.0 (tasks.Build build) job)
+refuted_where words (Some files) old new before now answers.NoMemory h = λ build board job gives none. inr (inr (inl refl))
+refuted_where words (Some files) old new before now (answers.Rejected line) h = λ build board job gives none. absurd (two_commands words build h.1.0.check job h.1.0.job)
 
--- a certificate of one block and contents is one of the same given otherwise
-valid_here : (project : Project) (input : Input) (a b : Block) (c d : Contents) (cert : Cert) → Gives project input a c → Gives project input b d → IsValidFor (part_of a.lines) c cert → IsValidFor (part_of b.lines) d cert
-valid_here project input a b c d cert h k valid =
-    subst (λ contents. IsValidFor (part_of b.lines) contents cert) (one_given_contents input.catalogue c d h.contents_are k.contents_are)
-    (subst (λ block. IsValidFor (part_of block.lines) c cert) (one_given_block project input.entry a b h.block_is k.block_is) valid)
+-- ---- checks
 
-whole_bytes : (found : Found) (a b : List ℕ) → found ≡ Whole a → found ≡ Whole b → a ≡ b
-whole_bytes found a b h k = let same : Whole a ≡ Whole b = sym h ∙ k in cc
-
--- a fault of words that are a check, whose input gives a block, contents and the bytes of a certificate
-no_check_fault : (words : List (List ℕ)) (files : Files) (check : Check) (block : Block) (contents : Contents) (bytes : List ℕ) (task : Task) (input : Input) (f : Fault) → IsCheck words check
-    → Gives (checked_project check) (input_of files (tasks.Check check)) block contents → certificate_of files (tasks.Check check) ≡ Whole bytes → IsJob words task → HasInput (Some files) task input → Stands task input f → ⊥
-no_check_fault words files check block contents bytes task input f job gives whole other has stands =
-    check_no_fault check (input_of files (tasks.Check check)) block contents bytes f gives whole
+-- a fault of words that are a check, whose input gives a board and the bytes of a certificate
+no_check_fault : (words : List (List ℕ)) (files : Files) (check : Check) (board : Board) (bytes : List ℕ) (task : Task) (input : Input) (f : Fault) → IsCheck words check
+    → GivesCertificate check (input_of files (tasks.Check check)) board bytes → IsJob words task → HasInput (Some files) task input → Stands task input f → ⊥
+no_check_fault words files check board bytes task input f job gives other has stands =
+    check_no_fault check (input_of files (tasks.Check check)) board bytes f gives
     (stands_here files task (tasks.Check check) input f (one_job words task (tasks.Check check) other job) has stands)
+
+-- what is found is found of the board and the bytes that are given
+judged_certificate : (words : List (List ℕ)) (files : Files) (status : Status) (text : List ℕ) (check : Check) (board : Board) (bytes : List ℕ) → IsCheck words check → (j : Judges words (Some files) status text)
+    → GivesCertificate check (input_of files (tasks.Check check)) board bytes → (j.board ≡ board) × (j.bytes ≡ bytes)
+judged_certificate words files status text check board bytes job j gives =
+    one_certificate check (input_of files (tasks.Check check)) j.board board j.bytes bytes (judged_here words files status text check job j) gives
 
 -- The text of a valid certificate is accepted, unless memory or something outside fails.
 pub accepted_where : (words : List (List ℕ)) (held old new : Option Files) (before now : Option (List ℕ)) (status : Status) → Headline words held old new before now status
-    → IfSome held (λ files. (check : Check) (block : Block) (contents : Contents) (cert : Cert) → IsCheck words check → Gives (checked_project check) (input_of files (tasks.Check check)) block contents
-    → certificate_of files (tasks.Check check) ≡ Whole (cert_text cert) → IsValidFor (part_of block.lines) contents cert → (status ≡ answers.Accepted) ⊎ EndsOutside status)
+    → IfSome held (λ files. (check : Check) (board : Board) (cert : Cert) → IsCheck words check → GivesCertificate check (input_of files (tasks.Check check)) board (cert_text cert)
+    → IsValidOn board cert → (status ≡ answers.Accepted) ⊎ EndsOutside status)
 accepted_where words None old new before now status h = tt
-accepted_where words (Some files) old new before now answers.Built h = λ check block contents cert job gives whole valid. absurd (two_commands words h.1.decides.build check h.1.decides.job job)
-accepted_where words (Some files) old new before now answers.Accepted h = λ check block contents cert job gives whole valid. inl refl
-accepted_where words (Some files) old new before now answers.Refuted h = λ check block contents cert job gives whole valid. absurd (two_commands words h.1.decides.build check h.1.decides.job job)
-accepted_where words (Some files) old new before now (answers.Fault f) h = λ check block contents cert job gives whole valid.
-    absurd (no_check_fault words files check block contents (cert_text cert) h.1.task h.1.input f job gives whole h.1.job h.1.read h.1.stands)
-accepted_where words (Some files) old new before now answers.ReadFault h = λ check block contents cert job gives whole valid. inr (inl refl)
-accepted_where words (Some files) old new before now answers.WriteFault h = λ check block contents cert job gives whole valid. inr (inr (inr refl))
-accepted_where words (Some files) old new before now answers.Usage h = λ check block contents cert job gives whole valid. absurd (h.1.0 (tasks.Check check) job)
-accepted_where words (Some files) old new before now answers.NoMemory h = λ check block contents cert job gives whole valid. inr (inr (inl refl))
-accepted_where words (Some files) old new before now (answers.Rejected line) h = λ check block contents cert job gives whole valid.
-    let here = judged_here words files (answers.Rejected line) h.0 check job h.1.0 in
-    absurd (h.1.0.judgement.0 cert (whole_bytes (certificate_of files (tasks.Check check)) h.1.0.bytes (cert_text cert) here.1 whole)
-    (valid_here (checked_project check) (input_of files (tasks.Check check)) block h.1.0.block contents h.1.0.contents cert gives here.0 valid))
+accepted_where words (Some files) old new before now answers.Built h = λ check board cert job gives valid. absurd (two_commands words h.1.decides.build check h.1.decides.job job)
+accepted_where words (Some files) old new before now answers.Accepted h = λ check board cert job gives valid. inl refl
+accepted_where words (Some files) old new before now answers.Refuted h = λ check board cert job gives valid. absurd (two_commands words h.1.decides.build check h.1.decides.job job)
+accepted_where words (Some files) old new before now (answers.Fault f) h = λ check board cert job gives valid.
+    absurd (no_check_fault words files check board (cert_text cert) h.1.task h.1.input f job gives h.1.job h.1.read h.1.stands)
+accepted_where words (Some files) old new before now answers.ReadFault h = λ check board cert job gives valid. inr (inl refl)
+accepted_where words (Some files) old new before now answers.WriteFault h = λ check board cert job gives valid. inr (inr (inr refl))
+accepted_where words (Some files) old new before now answers.Usage h = λ check board cert job gives valid. absurd (h.1.0 (tasks.Check check) job)
+accepted_where words (Some files) old new before now answers.NoMemory h = λ check board cert job gives valid. inr (inr (inl refl))
+accepted_where words (Some files) old new before now (answers.Rejected line) h = λ check board cert job gives valid.
+    let same = judged_certificate words files (answers.Rejected line) h.0 check board (cert_text cert) job h.1.0 gives in
+    absurd (h.1.0.judgement.none_valid cert same.1 (subst (λ b. IsValidOn b cert) (sym same.0) valid))
 
 -- Any other bytes are rejected, unless memory or something outside fails.
 pub rejected_where : (words : List (List ℕ)) (held old new : Option Files) (before now : Option (List ℕ)) (status : Status) → Headline words held old new before now status
-    → IfSome held (λ files. (check : Check) (block : Block) (contents : Contents) (bytes : List ℕ) → IsCheck words check → Gives (checked_project check) (input_of files (tasks.Check check)) block contents
-    → certificate_of files (tasks.Check check) ≡ Whole bytes → IsNoValidCertificate (part_of block.lines) contents bytes → IsRejected status ⊎ EndsOutside status)
+    → IfSome held (λ files. (check : Check) (board : Board) (bytes : List ℕ) → IsCheck words check → GivesCertificate check (input_of files (tasks.Check check)) board bytes
+    → IsNoValidCertificate board bytes → IsRejected status ⊎ EndsOutside status)
 rejected_where words None old new before now status h = tt
-rejected_where words (Some files) old new before now answers.Built h = λ check block contents bytes job gives whole none. absurd (two_commands words h.1.decides.build check h.1.decides.job job)
-rejected_where words (Some files) old new before now answers.Accepted h = λ check block contents bytes job gives whole none.
-    let here = judged_here words files answers.Accepted h.0 check job h.1.0 in
+rejected_where words (Some files) old new before now answers.Built h = λ check board bytes job gives none. absurd (two_commands words h.1.decides.build check h.1.decides.job job)
+rejected_where words (Some files) old new before now answers.Accepted h = λ check board bytes job gives none.
+    let same = judged_certificate words files answers.Accepted h.0 check board bytes job h.1.0 gives in
     let accepts = h.1.0.judgement in
-    absurd (none accepts.cert (whole_bytes (certificate_of files (tasks.Check check)) bytes h.1.0.bytes whole here.1 ∙ accepts.bytes_are)
-    (valid_here (checked_project check) (input_of files (tasks.Check check)) h.1.0.block block h.1.0.contents contents accepts.cert here.0 gives accepts.valid))
-rejected_where words (Some files) old new before now answers.Refuted h = λ check block contents bytes job gives whole none. absurd (two_commands words h.1.decides.build check h.1.decides.job job)
-rejected_where words (Some files) old new before now (answers.Fault f) h = λ check block contents bytes job gives whole none.
-    absurd (no_check_fault words files check block contents bytes h.1.task h.1.input f job gives whole h.1.job h.1.read h.1.stands)
-rejected_where words (Some files) old new before now answers.ReadFault h = λ check block contents bytes job gives whole none. inr (inl refl)
-rejected_where words (Some files) old new before now answers.WriteFault h = λ check block contents bytes job gives whole none. inr (inr (inr refl))
-rejected_where words (Some files) old new before now answers.Usage h = λ check block contents bytes job gives whole none. absurd (h.1.0 (tasks.Check check) job)
-rejected_where words (Some files) old new before now answers.NoMemory h = λ check block contents bytes job gives whole none. inr (inr (inl refl))
-rejected_where words (Some files) old new before now (answers.Rejected line) h = λ check block contents bytes job gives whole none. inl (line, refl)
+    absurd (none accepts.cert (sym same.1 ∙ accepts.bytes_are) (subst (λ b. IsValidOn b accepts.cert) same.0 accepts.valid))
+rejected_where words (Some files) old new before now answers.Refuted h = λ check board bytes job gives none. absurd (two_commands words h.1.decides.build check h.1.decides.job job)
+rejected_where words (Some files) old new before now (answers.Fault f) h = λ check board bytes job gives none.
+    absurd (no_check_fault words files check board bytes h.1.task h.1.input f job gives h.1.job h.1.read h.1.stands)
+rejected_where words (Some files) old new before now answers.ReadFault h = λ check board bytes job gives none. inr (inl refl)
+rejected_where words (Some files) old new before now answers.WriteFault h = λ check board bytes job gives none. inr (inr (inr refl))
+rejected_where words (Some files) old new before now answers.Usage h = λ check board bytes job gives none. absurd (h.1.0 (tasks.Check check) job)
+rejected_where words (Some files) old new before now answers.NoMemory h = λ check board bytes job gives none. inr (inr (inl refl))
+rejected_where words (Some files) old new before now (answers.Rejected line) h = λ check board bytes job gives none. inl (line, refl)
 
 -- ---- jobs without a fault
 

@@ -1,4 +1,4 @@
--- At most one block, catalogue or fault comes of an input, and never both.
+-- At most one board or fault comes of an input, and never both.
 use Rattle.std.proofs.Common.{◌≡◌, ℕ, Bool, true, false, ◌||◌, List, [], ◌∷◌, ◌++◌, length, inl, inr, sym, ◌∙◌, ap, refl, subst}
 use Rattle.std.specs.List.{list_any}
 use Rattle.std.specs.Prelude.{Some}
@@ -16,8 +16,12 @@ use Rattle.ato_build.specs.Entry.{GivesBlock, StandsInEntry, IsLineFault, LacksB
 use Rattle.ato_first.specs.FirstParts.{is_empty_range, HasRanges}
 use Rattle.ato_first.specs.FirstPoints.{AreKnown, IsFirstLineAt, is_unknown_in}
 use Rattle.ato_build.specs.Found.{Found, Missing, TooLong, Whole}
-use Rattle.ato_build.specs.Input.{Input, GivesContents, StandsInCatalogue, StandsInCertificate, StandsInProject, Gives, Stands}
-use Rattle.ato_build.specs.Projects.{built_project, checked_project, project_of}
+use Rattle.ato_base.specs.Stages.{Reaches, arrived, onward, IsDetermined, IsLast}
+use Rattle.ato_base.proofs.StageLaws.{one_fault_stands, no_fault_stands, one_last_stage}
+use Rattle.ato_build.specs.Boards.{Board}
+use Rattle.ato_build.specs.Input.{Input, GivesContents, StandsInCatalogue, StandsInCertificate}
+use Rattle.ato_build.specs.InputStages.{Stage, Started, WithBlock, WithBoard, WithCertificate, Leads, Has, IsReached, Stands, GivesBoard, GivesCertificate}
+use Rattle.ato_build.specs.Projects.{checked_project, project_of}
 use Rattle.ato_words.specs.declared.words.Build.{Build}
 use Rattle.ato_words.specs.declared.words.Check.{Check}
 use Rattle.ato_words.specs.declared.words.Task.{Task}
@@ -135,33 +139,123 @@ whole_no_fault (tasks.Check check) Missing bytes f is h = let bad : ⊥ = cc in 
 whole_no_fault (tasks.Check check) TooLong bytes f is h = let bad : ⊥ = cc in bad
 whole_no_fault (tasks.Check check) (Whole other) bytes f is h = h
 
--- ---- the input
+-- ---- the stages
 
--- At most one fault stands in a project.
-one_project_fault : (project : Project) (input : Input) (f g : Fault) → StandsInProject project input f → StandsInProject project input g → f ≡ g
-one_project_fault project input f g (inl h) (inl k) = one_entry_fault project input.entry f g h k
-one_project_fault project input f g (inl h) (inr (block, gives, k)) = absurd (gives_no_entry_fault project input.entry block f gives h)
-one_project_fault project input f g (inr (block, gives, h)) (inl k) = absurd (gives_no_entry_fault project input.entry block g gives k)
-one_project_fault project input f g (inr (block, gives, h)) (inr (other, also, k)) = one_catalogue_fault input.catalogue f g h k
+same_board : (input : Input) (block : Block) (a b : Board) → (a.block ≡ block) × GivesContents input.catalogue a.contents → (b.block ≡ block) × GivesContents input.catalogue b.contents → a ≡ b
+same_board input block a b h k =
+    let blocks = h.0 ∙ sym k.0 in
+    let contents = one_given_contents input.catalogue a.contents b.contents h.1 k.1 in
+    λ i. record { block = blocks i; contents = contents i }
 
--- Where a block and contents are given no fault stands in the project.
-pub gives_no_fault : (project : Project) (input : Input) (block : Block) (contents : Contents) (f : Fault) → Gives project input block contents → StandsInProject project input f → ⊥
-gives_no_fault project input block contents f h (inl k) = gives_no_entry_fault project input.entry block f h.block_is k
-gives_no_fault project input block contents f h (inr (other, gives, k)) = contents_no_fault input.catalogue contents f h.contents_are k
+whole_bytes : (found : Found) (a b : List ℕ) → found ≡ Whole a → found ≡ Whole b → a ≡ b
+whole_bytes found a b h k = let same : Whole a ≡ Whole b = sym h ∙ k in cc
+
+one_next : (task : Task) (input : Input) (s t u : Stage) → Leads task input s t → Leads task input s u → t ≡ u
+one_next task input Started (WithBlock a) (WithBlock b) h k = ap WithBlock (one_given_block (project_of task) input.entry a b h k)
+one_next task input Started (WithBlock a) u h k = absurd k
+one_next task input (WithBlock block) (WithBoard a) (WithBoard b) h k = ap WithBoard (same_board input block a b h k)
+one_next task input (WithBlock block) (WithBoard a) u h k = absurd k
+one_next (tasks.Check check) input (WithBoard board) (WithCertificate a x) (WithCertificate b y) h k =
+    let boards = h.0 ∙ sym k.0 in
+    let bytes = whole_bytes input.certificate x y h.1 k.1 in
+    λ i. WithCertificate (boards i) (bytes i)
+one_next (tasks.Check check) input (WithBoard board) (WithCertificate a x) u h k = absurd k
+one_next task input s t u h k = absurd h
+
+one_fault_of : (task : Task) (input : Input) (s : Stage) (f g : Fault) → Has task input s f → Has task input s g → f ≡ g
+one_fault_of task input Started f g h k = one_entry_fault (project_of task) input.entry f g h k
+one_fault_of task input (WithBlock block) f g h k = one_catalogue_fault input.catalogue f g h k
+one_fault_of task input (WithBoard board) f g h k = one_certificate_fault task input.certificate f g h k
+one_fault_of task input (WithCertificate board bytes) f g h k = absurd h
+
+never_led_and_faulted : (task : Task) (input : Input) (s t : Stage) (f : Fault) → Leads task input s t → Has task input s f → ⊥
+never_led_and_faulted task input Started (WithBlock block) f h k = gives_no_entry_fault (project_of task) input.entry block f h k
+never_led_and_faulted task input (WithBlock block) (WithBoard board) f h k = contents_no_fault input.catalogue board.contents f h.1 k
+never_led_and_faulted (tasks.Check check) input (WithBoard board) (WithCertificate same bytes) f h k = whole_no_fault (tasks.Check check) input.certificate bytes f h.1 k
+never_led_and_faulted task input s t f h k = h
+
+-- Each stage leads to one at most, has one fault at most, and never does both.
+pub determined : (task : Task) (input : Input) → IsDetermined (Leads task input) (Has task input)
+determined task input = record { one_next = one_next task input; one_fault = one_fault_of task input; never_both = never_led_and_faulted task input }
+
+build_ends : (build : Build) (input : Input) (board : Board) (s : Stage) → Leads (tasks.Build build) input (WithBoard board) s → ⊥
+build_ends build input board Started h = h
+build_ends build input board (WithBlock block) h = h
+build_ends build input board (WithBoard other) h = h
+build_ends build input board (WithCertificate other bytes) h = h
+
+check_ends : (check : Check) (input : Input) (board : Board) (bytes : List ℕ) (s : Stage) → Leads (tasks.Check check) input (WithCertificate board bytes) s → ⊥
+check_ends check input board bytes Started h = h
+check_ends check input board bytes (WithBlock block) h = h
+check_ends check input board bytes (WithBoard other) h = h
+check_ends check input board bytes (WithCertificate other more) h = h
+
+-- the last stages: the board for a build, and the bytes of the certificate for a check
+last_of_build : (build : Build) (input : Input) (board : Board) → IsLast (Leads (tasks.Build build) input) (Has (tasks.Build build) input) (WithBoard board)
+last_of_build build input board = record { ends = build_ends build input board; sound = λ f h. h }
+
+last_of_check : (check : Check) (input : Input) (board : Board) (bytes : List ℕ) → IsLast (Leads (tasks.Check check) input) (Has (tasks.Check check) input) (WithCertificate board bytes)
+last_of_check check input board bytes = record { ends = check_ends check input board bytes; sound = λ f h. h }
 
 -- At most one fault stands in an input.
 pub stands_once : (task : Task) (input : Input) (f g : Fault) → Stands task input f → Stands task input g → f ≡ g
-stands_once task input f g (inl h) (inl k) = one_project_fault (project_of task) input f g h k
-stands_once task input f g (inl h) (inr (block, contents, gives, k)) = absurd (gives_no_fault (project_of task) input block contents f gives h)
-stands_once task input f g (inr (block, contents, gives, h)) (inl k) = absurd (gives_no_fault (project_of task) input block contents g gives k)
-stands_once task input f g (inr (block, contents, gives, h)) (inr (other, others, also, k)) = one_certificate_fault task input.certificate f g h k
+stands_once task input f g h k = one_fault_stands (Leads task input) (Has task input) (determined task input) Started f g h k
 
--- Where a build is given a block and contents no fault stands, and where a check's certificate is whole.
-pub build_no_fault : (build : Build) (input : Input) (block : Block) (contents : Contents) (f : Fault) → Gives (built_project build) input block contents → Stands (tasks.Build build) input f → ⊥
-build_no_fault build input block contents f gives (inl h) = gives_no_fault (built_project build) input block contents f gives h
-build_no_fault build input block contents f gives (inr (other, others, also, h)) = h
+-- No fault stands in the input of a build that gives a board, and none in that of a check that gives a certificate.
+pub build_no_fault : (build : Build) (input : Input) (board : Board) (f : Fault) → GivesBoard (tasks.Build build) input board → Stands (tasks.Build build) input f → ⊥
+build_no_fault build input board f gives h =
+    no_fault_stands (Leads (tasks.Build build) input) (Has (tasks.Build build) input) (determined (tasks.Build build) input) Started (WithBoard board) f (last_of_build build input board) gives h
 
-pub check_no_fault : (check : Check) (input : Input) (block : Block) (contents : Contents) (bytes : List ℕ) (f : Fault) → Gives (checked_project check) input block contents → input.certificate ≡ Whole bytes
-    → Stands (tasks.Check check) input f → ⊥
-check_no_fault check input block contents bytes f gives whole (inl h) = gives_no_fault (checked_project check) input block contents f gives h
-check_no_fault check input block contents bytes f gives whole (inr (other, others, also, h)) = whole_no_fault (tasks.Check check) input.certificate bytes f whole h
+pub check_no_fault : (check : Check) (input : Input) (board : Board) (bytes : List ℕ) (f : Fault) → GivesCertificate check input board bytes → Stands (tasks.Check check) input f → ⊥
+check_no_fault check input board bytes f gives h =
+    no_fault_stands (Leads (tasks.Check check) input) (Has (tasks.Check check) input) (determined (tasks.Check check) input) Started (WithCertificate board bytes) f (last_of_check check input board bytes) gives h
+
+-- A build is given one board at most, and a check one board with the bytes of one certificate.
+pub one_board : (build : Build) (input : Input) (a b : Board) → GivesBoard (tasks.Build build) input a → GivesBoard (tasks.Build build) input b → a ≡ b
+one_board build input a b h k =
+    let same : WithBoard a ≡ WithBoard b = one_last_stage (Leads (tasks.Build build) input) (Has (tasks.Build build) input) (determined (tasks.Build build) input) Started (WithBoard a) (WithBoard b)
+    (last_of_build build input a) (last_of_build build input b) h k in
+    cc
+
+pub one_certificate : (check : Check) (input : Input) (a b : Board) (x y : List ℕ) → GivesCertificate check input a x → GivesCertificate check input b y → (a ≡ b) × (x ≡ y)
+one_certificate check input a b x y h k =
+    let same : WithCertificate a x ≡ WithCertificate b y =
+    one_last_stage (Leads (tasks.Check check) input) (Has (tasks.Check check) input) (determined (tasks.Check check) input) Started (WithCertificate a x) (WithCertificate b y)
+    (last_of_check check input a x) (last_of_check check input b y) h k in
+    let boards : a ≡ b = cc in
+    let bytes : x ≡ y = cc in
+    (boards, bytes)
+
+-- ---- what is given at a stage
+
+-- The entry gives the block, the catalogue the contents, and the certificate's file its bytes.
+abbrev pub IsGiven : Task → Input → Stage → Type 0
+IsGiven task input Started = Unit {0}
+IsGiven task input (WithBlock block) = GivesBlock (project_of task) input.entry block
+IsGiven task input (WithBoard board) = GivesBlock (project_of task) input.entry board.block × GivesContents input.catalogue board.contents
+IsGiven (tasks.Build build) input (WithCertificate board bytes) = ⊥
+IsGiven (tasks.Check check) input (WithCertificate board bytes) =
+    GivesBlock (checked_project check) input.entry board.block × GivesContents input.catalogue board.contents × (input.certificate ≡ Whole bytes)
+
+given_next : (task : Task) (input : Input) (s t : Stage) → Leads task input s t → IsGiven task input s → IsGiven task input t
+given_next task input Started (WithBlock block) h k = h
+given_next task input (WithBlock block) (WithBoard board) h k = (subst (GivesBlock (project_of task) input.entry) (sym h.0) k, h.1)
+given_next (tasks.Check check) input (WithBoard board) (WithCertificate same bytes) h k =
+    subst (λ b. IsGiven (tasks.Check check) input (WithCertificate b bytes)) (sym h.0) (k.0, k.1, h.1)
+given_next task input s t h k = absurd h
+
+given_from : (task : Task) (input : Input) (s t : Stage) → Reaches (Leads task input) s t → IsGiven task input s → IsGiven task input t
+given_from task input s t arrived k = k
+given_from task input s t (onward {t = next} step rest) k = given_from task input next t rest (given_next task input s next step k)
+
+-- A stage is reached where it is given, and only there.
+pub given_at : (task : Task) (input : Input) (stage : Stage) → IsReached task input stage → IsGiven task input stage
+given_at task input stage reached = given_from task input Started stage reached tt
+
+pub reached_at : (task : Task) (input : Input) (stage : Stage) → IsGiven task input stage → IsReached task input stage
+reached_at task input Started h = arrived
+reached_at task input (WithBlock block) h = onward h arrived
+reached_at task input (WithBoard board) h = onward {t = WithBlock board.block} h.0 (onward (refl, h.1) arrived)
+reached_at (tasks.Build build) input (WithCertificate board bytes) h = absurd h
+reached_at (tasks.Check check) input (WithCertificate board bytes) h =
+    onward {t = WithBlock board.block} h.0 (onward {t = WithBoard board} (refl, h.1) (onward (refl, h.2) arrived))

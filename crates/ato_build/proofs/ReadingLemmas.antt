@@ -16,11 +16,13 @@ use Rattle.ato_build.specs.Causes.{CountsReads}
 use Rattle.ato_build.specs.Entry.{source_limit, GivesBlock, StandsInEntry}
 use Rattle.ato_build.specs.Fetching.{IsFetched}
 use Rattle.ato_build.specs.Found.{Found, Missing, TooLong, Whole, found_of, HasFile, bytes_of}
-use Rattle.ato_build.specs.Headline.{Means, NamesUnread}
-use Rattle.ato_build.specs.Input.{StandsInCatalogue, catalogue_limit, certificate_limit, HasCertificate}
+use Rattle.ato_base.specs.Stages.{arrived, onward}
+use Rattle.ato_build.specs.Headline.{Means}
+use Rattle.ato_build.specs.Input.{Input, StandsInCatalogue, catalogue_limit, certificate_limit, HasCertificate, HasInput}
+use Rattle.ato_build.specs.InputStages.{Stage, Started, WithBlock, Reads, IsReached, Stands}
 use Rattle.ato_build.specs.Projects.{project_of}
 use Rattle.ato_build.specs.Readings.{EndsEarly, EndsWith, IsFaultEnd, IsReading}
-use Rattle.ato_build.specs.Texts.{fault_text, read_fault_text, said_text}
+use Rattle.ato_build.specs.Texts.{fault_text, files_with, read_fault_text, said_text}
 use Rattle.ato_build.specs.declared.answer.Answer.{Answer}
 use Rattle.ato_build.specs.declared.fetching.Fetched.{Fetched}
 use Rattle.ato_build.specs.declared.fetching.Fetched.TheVariants as fetching
@@ -43,34 +45,31 @@ some_certificate held (tasks.Check check) = some_file held certificate_limit che
 
 module _ (held : Option Files) (words : List (List ℕ)) (task : Task) (tray : Option Files) (entry : Found) (f : Fault) (source : List ℕ) (answer : Answer)
     (job : IsJob words task) (read : HasFile held source_limit (project_of task).file entry) (is : source ≡ bytes_of entry)
-    (status : answer.status ≡ answers.Fault f) (said : said_text answer.said ≡ fault_text (project_of task) source f) where
+    (status : answer.status ≡ answers.Fault f) (said : said_text answer.said ≡ fault_text (files_with (project_of task) source) f) where
+  fault_means : (catalogue certificate : Found) → HasFile held catalogue_limit (project_of task).catalogue catalogue → HasCertificate held task certificate
+      → Stands task (record { entry = entry; catalogue = catalogue; certificate = certificate }) f → Means words held tray tray answer.status (said_text answer.said)
+  fault_means catalogue certificate found has stands =
+      subst (λ s. Means words held tray tray s (said_text answer.said)) (sym status) (record {
+        task = task;
+        job = job;
+        input = record { entry = entry; catalogue = catalogue; certificate = certificate };
+        read = record { entry = read; catalogue = found; certificate = has };
+        stands = stands;
+        nothing_put = refl;
+        text_is = said ∙ ap (λ s. fault_text (files_with (project_of task) s) f) is;
+      })
+
   entry_means : StandsInEntry (project_of task) entry f → Means words held tray tray answer.status (said_text answer.said)
   entry_means stands =
       let catalogue = some_file held catalogue_limit (project_of task).catalogue in
       let certificate = some_certificate held task in
-      subst (λ s. Means words held tray tray s (said_text answer.said)) (sym status) (record {
-        task = task;
-        job = job;
-        input = record { entry = entry; catalogue = catalogue.0; certificate = certificate.0 };
-        read = record { sources = record { entry = read; catalogue = catalogue.1 }; certificate = certificate.1 };
-        stands = inl (inl stands);
-        nothing_put = refl;
-        text_is = said ∙ ap (λ s. fault_text (project_of task) s f) is;
-      })
+      fault_means catalogue.0 certificate.0 catalogue.1 certificate.1 (record { stage = Started; reached = arrived; has = stands })
 
   catalogue_means : (block : Block) (catalogue : Found) → GivesBlock (project_of task) entry block → HasFile held catalogue_limit (project_of task).catalogue catalogue → StandsInCatalogue catalogue f
       → Means words held tray tray answer.status (said_text answer.said)
   catalogue_means block catalogue gives found stands =
       let certificate = some_certificate held task in
-      subst (λ s. Means words held tray tray s (said_text answer.said)) (sym status) (record {
-        task = task;
-        job = job;
-        input = record { entry = entry; catalogue = catalogue; certificate = certificate.0 };
-        read = record { sources = record { entry = read; catalogue = found }; certificate = certificate.1 };
-        stands = inl (inr (block, gives, stands));
-        nothing_put = refl;
-        text_is = said ∙ ap (λ s. fault_text (project_of task) s f) is;
-      })
+      fault_means catalogue certificate.0 found certificate.1 (record { stage = WithBlock block; reached = onward gives arrived; has = stands })
 
 module _ (held : Option Files) (project : Project) (entry : Found) (f : Fault) (source : List ℕ) (read : HasFile held source_limit project.file entry) (is : source ≡ bytes_of entry) where
   -- in the entry
@@ -79,7 +78,7 @@ module _ (held : Option Files) (project : Project) (entry : Found) (f : Fault) (
   entry_ended (Ok (Ready sources)) stands end = absurd end
   entry_ended (Ok (Ended answer)) stands (status, said) = λ words task tray job same.
       entry_means held words task tray entry f source answer job (subst (λ p. HasFile held source_limit p.file entry) (sym same) read) is status
-      (subst (λ p. said_text answer.said ≡ fault_text p source f) (sym same) said) (subst (λ p. StandsInEntry p entry f) (sym same) stands)
+      (subst (λ p. said_text answer.said ≡ fault_text (files_with p source) f) (sym same) said) (subst (λ p. StandsInEntry p entry f) (sym same) stands)
 
   -- in the catalogue
   pub catalogue_ended : (block : Block) (catalogue : Found) (result : Result Reading NoMemory) → GivesBlock project entry block → HasFile held catalogue_limit project.catalogue catalogue → StandsInCatalogue catalogue f
@@ -88,7 +87,7 @@ module _ (held : Option Files) (project : Project) (entry : Found) (f : Fault) (
   catalogue_ended block catalogue (Ok (Ready sources)) gives found stands end = absurd end
   catalogue_ended block catalogue (Ok (Ended answer)) gives found stands (status, said) = λ words task tray job same.
       catalogue_means held words task tray entry f source answer job (subst (λ p. HasFile held source_limit p.file entry) (sym same) read) is status
-      (subst (λ p. said_text answer.said ≡ fault_text p source f) (sym same) said) block catalogue (subst (λ p. GivesBlock p entry block) (sym same) gives)
+      (subst (λ p. said_text answer.said ≡ fault_text (files_with p source) f) (sym same) said) block catalogue (subst (λ p. GivesBlock p entry block) (sym same) gives)
       (subst (λ p. HasFile held catalogue_limit p.catalogue catalogue) (sym same) found) stands
 
 -- the same, where what stands at the entry's name is known only later
@@ -150,23 +149,40 @@ module _ (held : Option Files) (limit : ℕ) (name file : List ℕ) (fetched : F
 
 -- ---- a file that was not read
 
-unread_means : (held : Option Files) (words : List (List ℕ)) (task : Task) (tray : Option Files) (file : List ℕ) (answer : Answer) → IsJob words task → NamesUnread held task (read_fault_text file)
-    → answer.status ≡ answers.ReadFault → said_text answer.said ≡ read_fault_text file → Means words held tray tray answer.status (said_text answer.said)
-unread_means held words task tray file answer job unread status said =
-    subst (λ s. Means words held tray tray s (said_text answer.said)) (sym status) (record { task = task; job = job; unread = subst (NamesUnread held task) (sym said) unread; nothing_put = refl })
+pub unread_means : (held : Option Files) (words : List (List ℕ)) (task : Task) (tray : Option Files) (file : List ℕ) (answer : Answer) (input : Input) (stage : Stage) → IsJob words task → HasInput held task input
+    → IsReached task input stage → Reads task stage ≡ Some file → answer.status ≡ answers.ReadFault → said_text answer.said ≡ read_fault_text file → Means words held tray tray answer.status (said_text answer.said)
+unread_means held words task tray file answer input stage job read reached reads status said =
+    subst (λ s. Means words held tray tray s (said_text answer.said)) (sym status) (record {
+      task = task;
+      job = job;
+      input = input;
+      read = read;
+      stage = stage;
+      reached = reached;
+      file = file;
+      reads = reads;
+      nothing_put = refl;
+      text_is = said;
+    })
 
 module _ (held : Option Files) (project : Project) (file : List ℕ) (answer : Answer) (status : answer.status ≡ answers.ReadFault) (said : said_text answer.said ≡ read_fault_text file) where
   -- the entry
   pub entry_unread : file ≡ project.file → EndsEarly held project answer
   entry_unread is = λ words task tray job same.
-      unread_means held words task tray file answer job (inl (ap read_fault_text (is ∙ ap (λ p. p.file) (sym same)))) status said
+      let entry = some_file held source_limit (project_of task).file in
+      let catalogue = some_file held catalogue_limit (project_of task).catalogue in
+      let certificate = some_certificate held task in
+      unread_means held words task tray file answer (record { entry = entry.0; catalogue = catalogue.0; certificate = certificate.0 }) Started job
+      (record { entry = entry.1; catalogue = catalogue.1; certificate = certificate.1 }) arrived (ap Some (ap (λ p. p.file) same ∙ sym is)) status said
 
   -- the catalogue
   pub catalogue_unread : (entry : Found) (block : Block) → HasFile held source_limit project.file entry → GivesBlock project entry block → file ≡ project.catalogue → EndsEarly held project answer
   catalogue_unread entry block read gives is = λ words task tray job same.
-      unread_means held words task tray file answer job
-      (inr (inl (entry, block, subst (λ p. HasFile held source_limit p.file entry) (sym same) read, subst (λ p. GivesBlock p entry block) (sym same) gives, ap read_fault_text (is ∙ ap (λ p. p.catalogue) (sym same)))))
-      status said
+      let catalogue = some_file held catalogue_limit (project_of task).catalogue in
+      let certificate = some_certificate held task in
+      unread_means held words task tray file answer (record { entry = entry; catalogue = catalogue.0; certificate = certificate.0 }) (WithBlock block) job
+      (record { entry = subst (λ p. HasFile held source_limit p.file entry) (sym same) read; catalogue = catalogue.1; certificate = certificate.1 })
+      (onward (subst (λ p. GivesBlock p entry block) (sym same) gives) arrived) (ap Some (ap (λ p. p.catalogue) same ∙ sym is)) status said
 
 -- ---- counts over two reads
 

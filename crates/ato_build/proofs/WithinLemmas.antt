@@ -1,6 +1,6 @@
 -- Every fault of an entry lies in its source.
-use Rattle.std.proofs.Common.{ℕ, ◌≤◌, List, ◌∷◌, ◌++◌, length, ap, sym, subst, arith, inl, inr, length-append}
-use Rattle.std.specs.Prelude.{Some, Bool}
+use Rattle.std.proofs.Common.{◌≡◌, ℕ, ◌≤◌, List, ◌∷◌, ◌++◌, length, ap, sym, subst, arith, inl, inr, length-append}
+use Rattle.std.specs.Prelude.{Some, None, Bool, IfSome}
 use Rattle.std.proofs.lemmas.List.Concat.{flat_map-append}
 use Rattle.ato_base.specs.declared.faults.Fault.{Fault}
 use Rattle.ato_lexer.specs.FirstForm.{lined, line_text, head_text, lines_text, IsFile}
@@ -43,3 +43,13 @@ stands_within project source f (inr (inr (block, is, named, fault))) = line_faul
 -- A fault in a cell needs no byte of the source.
 pub cell_within : (source : List ℕ) (f : Fault) → IsCellFault f → LiesWithin source f.at
 cell_within source f h = subst (LiesWithin source) (sym h.at) tt
+
+-- No fault of an entry or in a cell has a second place.
+pub stands_alone : (project : Project) (source : List ℕ) (f : Fault) → StandsInEntry project (Whole source) f → f.other ≡ None
+stands_alone project source f (inl (at, bad, same)) = ap (λ g. g.other) same
+stands_alone project source f (inr (inl (lacks, same))) = ap (λ g. g.other) same
+stands_alone project source f (inr (inr (block, is, named, inl (at, unknown, same)))) = ap (λ g. g.other) same
+stands_alone project source f (inr (inr (block, is, named, inr (known, (at, empty, same))))) = ap (λ g. g.other) same
+
+pub alone_within : (source : List ℕ) (f : Fault) → f.other ≡ None → IfSome f.other (LiesWithin source)
+alone_within source f none = subst (λ o. IfSome o (LiesWithin source)) (sym none) tt

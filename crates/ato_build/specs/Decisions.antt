@@ -1,8 +1,6 @@
 -- What a build decides: which files it puts, and what it prints of them.
 use Rattle.std.specs.Prelude.{◌≡◌, ℕ, List, [], ◌∷◌, ◌++◌, codes}
 use Rattle.ato_base.specs.declared.nets.NetList.{NetList}
-use Rattle.ato_lexer.specs.declared.first_form.Block.{Block}
-use Rattle.ato_catalog.specs.Contents.{Contents}
 use Rattle.ato_cert.specs.Nodes.{nodes}
 use Rattle.ato_cert.specs.Texts.{cert_text}
 use Rattle.ato_cert.specs.declared.cert.BoxTree.{BoxTree}
@@ -10,10 +8,8 @@ use Rattle.ato_cert.specs.declared.cert.Cert.{Cert}
 use Rattle.ato_cert.specs.declared.cert.PickTree.{PickTree}
 use Rattle.ato_cert.specs.declared.cert.Proof.TheVariants as proofs
 use Rattle.ato_cert.specs.declared.cert.Verdict.TheVariants as verdicts
-use Rattle.ato_first.specs.FirstNets.{IsNetList, SharesExactly}
-use Rattle.ato_first.specs.FirstParts.{part_of, slot_count, IsGoodPick, IsFirstGoodPick, NoGoodPick, comp_value}
 use Rattle.ato_writers.specs.Netlists.{list_text}
-use Rattle.ato_build.specs.Problems.{IsCertificate}
+use Rattle.ato_build.specs.Boards.{Board, IsGood, IsFirstGood, NoGood, IsListFor, IsValidOn, slots_of}
 use Rattle.ato_build.specs.Texts.{summary_text}
 use Rattle.ato_build.specs.declared.outputs.Output.{Output}
 use Rattle.ato_build.specs.declared.status.Status.{Status}
@@ -27,40 +23,46 @@ net_output options list = record { name = options.out ++ codes ".net"; bytes = l
 abbrev pub cert_output : Options → Cert → Output
 cert_output options cert = record { name = options.out ++ codes ".cert"; bytes = cert_text cert }
 
--- The net list is the block's, with the picked part. Two pins share a net of it exactly where the lines join them.
-pub record IsListOf (block : Block) (contents : Contents) (pick : List ℕ) (list : NetList) : Type 0 where
-  pub is_list : IsNetList block (comp_value block contents pick) list
-  pub shares : SharesExactly block list
+-- The certificate is valid, and was searched for within the steps of the build.
+pub record IsCertificate (options : Options) (board : Board) (cert : Cert) : Type 0 where
+  pub valid : IsValidOn board cert
+  pub steps_are : cert.steps ≡ options.steps
 
--- The pick is good: what is asserted holds at every value of the picked candidate, which is the first such one. Its net list
--- and a valid certificate of the pick are put.
-pub record BuildsPick (options : Options) (block : Block) (contents : Contents) (pick : List ℕ) (outputs : List Output) (text : List ℕ) : Type 0 where
-  pub good : IsGoodPick (part_of block.lines) contents pick
-  pub first : IsFirstGoodPick (part_of block.lines) contents pick
+-- What is put and printed for a pick: the net list with it, and its certificate.
+pub record PutsBuilt (options : Options) (board : Board) (pick : List ℕ) (cert : Cert) (outputs : List Output) (text : List ℕ) : Type 0 where
   pub list : NetList
-  pub list_is : IsListOf block contents pick list
+  pub list_is : IsListFor board pick list
+  pub outputs_are : outputs ≡ net_output options list ∷ cert_output options cert ∷ []
+  pub text_is : text ≡ summary_text (codes "built") list (slots_of board) (nodes cert.proof)
+
+-- What is put and printed where no pick is good: the certificate.
+pub record PutsRefuted (options : Options) (board : Board) (cert : Cert) (outputs : List Output) (text : List ℕ) : Type 0 where
+  pub list : NetList
+  pub list_is : IsListFor board [] list
+  pub outputs_are : outputs ≡ cert_output options cert ∷ []
+  pub text_is : text ≡ summary_text (codes "refuted") list (slots_of board) (nodes cert.proof)
+
+-- The pick is good, and the first good one. Its net list is put, with a valid certificate of the pick.
+pub record BuildsPick (options : Options) (board : Board) (pick : List ℕ) (outputs : List Output) (text : List ℕ) : Type 0 where
+  pub good : IsGood board pick
+  pub first : IsFirstGood board pick
   pub cert : Cert
-  pub cert_is : IsCertificate (part_of block.lines) contents options.steps cert
+  pub cert_is : IsCertificate options board cert
   pub boxes : List BoxTree
   pub proof : cert.proof ≡ proofs.Built pick boxes
-  pub outputs_are : outputs ≡ net_output options list ∷ cert_output options cert ∷ []
-  pub text_is : text ≡ summary_text (codes "built") list (slot_count (part_of block.lines)) (nodes cert.proof)
+  pub puts : PutsBuilt options board pick cert outputs text
 
--- No pick is good: whatever candidate is taken, what is asserted fails at some value of it. A valid certificate of this is
--- put.
-pub record RefutesPicks (options : Options) (block : Block) (contents : Contents) (outputs : List Output) (text : List ℕ) : Type 0 where
-  pub none_good : NoGoodPick (part_of block.lines) contents
-  pub list : NetList
-  pub list_is : IsListOf block contents [] list
+-- No pick is good. A valid certificate of this is put.
+pub record RefutesPicks (options : Options) (board : Board) (outputs : List Output) (text : List ℕ) : Type 0 where
+  pub none_good : NoGood board
   pub cert : Cert
-  pub cert_is : IsCertificate (part_of block.lines) contents options.steps cert
+  pub cert_is : IsCertificate options board cert
   pub tree : PickTree
   pub proof : cert.proof ≡ proofs.Tree verdicts.Refuted tree
-  pub outputs_are : outputs ≡ cert_output options cert ∷ []
-  pub text_is : text ≡ summary_text (codes "refuted") list (slot_count (part_of block.lines)) (nodes cert.proof)
+  pub puts : PutsRefuted options board cert outputs text
 
--- What a build of the block with this catalogue decides, by the status that it ends with where all goes well.
-abbrev pub IsDecision : Options → Block → Contents → Status → List Output → List ℕ → Type 0
-IsDecision options block contents answers.Built outputs text = (pick : List ℕ) × BuildsPick options block contents pick outputs text
-IsDecision options block contents answers.Refuted outputs text = RefutesPicks options block contents outputs text
-IsDecision options block contents status outputs text = ⊥
+-- What a build of the board decides, by the status that it ends with where all goes well.
+abbrev pub IsDecision : Options → Board → Status → List Output → List ℕ → Type 0
+IsDecision options board answers.Built outputs text = (pick : List ℕ) × BuildsPick options board pick outputs text
+IsDecision options board answers.Refuted outputs text = RefutesPicks options board outputs text
+IsDecision options board status outputs text = ⊥

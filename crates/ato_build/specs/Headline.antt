@@ -2,20 +2,17 @@
 -- the tray's files before and after, `before` and `now` the sink's bytes before and after.
 use Rattle.std.specs.Prelude.{◌≡◌, ◌⊎◌, ℕ, List, Option, Some, None}
 use Rattle.ato_base.specs.declared.faults.Fault.{Fault}
-use Rattle.ato_lexer.specs.declared.first_form.Block.{Block}
-use Rattle.ato_catalog.specs.Contents.{Contents}
 use Rattle.ato_outside.specs.Files.{Files}
 use Rattle.ato_outside.specs.declared.tray.TrayError.TheVariants as tray_errors
+use Rattle.ato_build.specs.Boards.{Board}
 use Rattle.ato_build.specs.Decisions.{IsDecision}
-use Rattle.ato_build.specs.Entry.{source_limit, GivesBlock}
-use Rattle.ato_build.specs.Found.{Found, Whole, HasFile, bytes_of}
-use Rattle.ato_build.specs.Input.{Input, HasSources, HasInput, Gives, Stands}
+use Rattle.ato_build.specs.Input.{Input, HasInput}
+use Rattle.ato_build.specs.InputStages.{Stage, Reads, IsReached, Stands, GivesBoard, GivesCertificate}
 use Rattle.ato_build.specs.Judgements.{IsJudgement}
 use Rattle.ato_build.specs.Outputs.{PutsInOrder}
 use Rattle.ato_build.specs.Printing.{Appends, AppendsPrefix}
-use Rattle.ato_build.specs.Projects.{built_project, checked_project, project_of, options_of}
-use Rattle.ato_build.specs.Texts.{fault_text, read_fault_text, write_fault_text, memory_text, usage_text}
-use Rattle.ato_first.specs.FirstParts.{part_of}
+use Rattle.ato_build.specs.Projects.{options_of}
+use Rattle.ato_build.specs.Texts.{fault_line, read_fault_text, write_fault_text, memory_text, usage_text}
 use Rattle.ato_words.specs.Words.{IsBuild, IsCheck, IsJob, IsNoJob}
 use Rattle.ato_build.specs.declared.outputs.Output.{Output}
 use Rattle.ato_build.specs.declared.outputs.Stop.{Stop}
@@ -26,17 +23,16 @@ use Rattle.ato_words.specs.declared.words.Task.TheVariants as tasks
 use Rattle.ato_build.specs.declared.status.Status.{Status}
 use Rattle.ato_build.specs.declared.status.Status.TheVariants as answers
 
--- The words are a build whose input has no fault, and this is what it decides: its status, the files that it puts, and the
--- text of its summary.
+-- The words are a build whose input gives a board, and this is what it decides: its status, the files that it puts, and the text of
+-- its summary.
 pub record Decides (words : List (List ℕ)) (held : Option Files) (status : Status) (outputs : List Output) (summary : List ℕ) : Type 0 where
   pub build : Build
   pub job : IsBuild words build
   pub input : Input
   pub read : HasInput held (tasks.Build build) input
-  pub block : Block
-  pub contents : Contents
-  pub gives : Gives (built_project build) input block contents
-  pub decision : IsDecision (options_of build) block contents status outputs summary
+  pub board : Board
+  pub gives : GivesBoard (tasks.Build build) input board
+  pub decision : IsDecision (options_of build) board status outputs summary
 
 -- The decided files are put, all of them or those before the one at which the tray stopped.
 pub record PutsDecided (words : List (List ℕ)) (held old new : Option Files) (status : Status) (summary : List ℕ) (stop : Option Stop) : Type 0 where
@@ -44,18 +40,17 @@ pub record PutsDecided (words : List (List ℕ)) (held old new : Option Files) (
   pub decides : Decides words held status outputs summary
   pub puts : PutsInOrder old new outputs stop
 
--- The words are a check whose input has no fault, and this is what it finds of the certificate: its status, and the text.
+-- The words are a check whose input gives a board and the bytes of a certificate, and this is what it finds of them: its status, and
+-- the text.
 pub record Judges (words : List (List ℕ)) (held : Option Files) (status : Status) (text : List ℕ) : Type 0 where
   pub check : Check
   pub job : IsCheck words check
   pub input : Input
   pub read : HasInput held (tasks.Check check) input
-  pub block : Block
-  pub contents : Contents
-  pub gives : Gives (checked_project check) input block contents
+  pub board : Board
   pub bytes : List ℕ
-  pub whole : input.certificate ≡ Whole bytes
-  pub judgement : IsJudgement (part_of block.lines) contents bytes status text
+  pub gives : GivesCertificate check input board bytes
+  pub judgement : IsJudgement board bytes status text
 
 -- A certificate is checked, and nothing is put.
 abbrev pub IsChecked : List (List ℕ) → Option Files → Option Files → Option Files → Status → List ℕ → Type 0
@@ -69,28 +64,20 @@ pub record IsFaulted (words : List (List ℕ)) (held old new : Option Files) (f 
   pub read : HasInput held task input
   pub stands : Stands task input f
   pub nothing_put : new ≡ old
-  pub text_is : text ≡ fault_text (project_of task) (bytes_of input.entry) f
+  pub text_is : text ≡ fault_line task input f
 
--- The project of a check has no fault, and its certificate was not read.
-abbrev pub NamesCertificate : Option Files → Task → List ℕ → Type 0
-NamesCertificate held (tasks.Build build) text = ⊥
-NamesCertificate held (tasks.Check check) text =
-    (input : Input) × (block : Block) × (contents : Contents) × HasSources held (checked_project check) input × Gives (checked_project check) input block contents
-    × (text ≡ read_fault_text check.cert)
-
--- The entry was not read, or the catalogue of an entry that gives a block, or the certificate of a project without a fault.
-abbrev pub NamesUnread : Option Files → Task → List ℕ → Type 0
-NamesUnread held task text =
-    (text ≡ read_fault_text (project_of task).file)
-    ⊎ ((entry : Found) × (block : Block) × HasFile held source_limit (project_of task).file entry × GivesBlock (project_of task) entry block × (text ≡ read_fault_text (project_of task).catalogue))
-    ⊎ NamesCertificate held task text
-
--- A file was not read, nothing is put, and the text names the file.
+-- A file that a stage reads was not read, nothing is put, and the text names the file. No fault stands before it.
 pub record IsUnread (words : List (List ℕ)) (held old new : Option Files) (text : List ℕ) : Type 0 where
   pub task : Task
   pub job : IsJob words task
-  pub unread : NamesUnread held task text
+  pub input : Input
+  pub read : HasInput held task input
+  pub stage : Stage
+  pub reached : IsReached task input stage
+  pub file : List ℕ
+  pub reads : Reads task stage ≡ Some file
   pub nothing_put : new ≡ old
+  pub text_is : text ≡ read_fault_text file
 
 -- A decided file was not put: those before it are whole, of it a prefix is put, and the text names it.
 abbrev pub IsUnwritten : List (List ℕ) → Option Files → Option Files → Option Files → List ℕ → Type 0
@@ -125,30 +112,17 @@ abbrev pub Printed : List (List ℕ) → Option Files → Option Files → Optio
 Printed words held old new before now status = (text : List ℕ) × Means words held old new status text × Appends before now text
 
 -- The whole answer. On a fault of writing a prefix was appended of the text that was being written, and the tray is
--- as the status to which that text belongs has it.
+-- as the status to which that text belongs has it. On every other status its text was appended whole.
 abbrev pub Headline : List (List ℕ) → Option Files → Option Files → Option Files → Option (List ℕ) → Option (List ℕ) → Status → Type 0
-Headline words held old new before now answers.Built = Printed words held old new before now answers.Built
-Headline words held old new before now answers.Accepted = Printed words held old new before now answers.Accepted
-Headline words held old new before now answers.Refuted = Printed words held old new before now answers.Refuted
-Headline words held old new before now (answers.Fault f) = Printed words held old new before now (answers.Fault f)
-Headline words held old new before now answers.ReadFault = Printed words held old new before now answers.ReadFault
 Headline words held old new before now answers.WriteFault =
     (status : Status) × (text : List ℕ) × Means words held old new status text × AppendsPrefix before now text
-Headline words held old new before now answers.Usage = Printed words held old new before now answers.Usage
-Headline words held old new before now answers.NoMemory = Printed words held old new before now answers.NoMemory
-Headline words held old new before now (answers.Rejected line) = Printed words held old new before now (answers.Rejected line)
+Headline words held old new before now status = Printed words held old new before now status
 
 -- A text that tells of a failed read or a failed put belongs to one that failed in this call.
 abbrev pub IsCaused : Type 0 → Type 0 → Status → Type 0
-IsCaused Read Put answers.Built = Unit {0}
-IsCaused Read Put answers.Accepted = Unit {0}
-IsCaused Read Put answers.Refuted = Unit {0}
-IsCaused Read Put (answers.Fault f) = Unit {0}
 IsCaused Read Put answers.ReadFault = Read
 IsCaused Read Put answers.WriteFault = Put
-IsCaused Read Put answers.Usage = Unit {0}
-IsCaused Read Put answers.NoMemory = Unit {0}
-IsCaused Read Put (answers.Rejected line) = Unit {0}
+IsCaused Read Put status = Unit {0}
 
 -- A fault of writing, where it is known whether a read, a put and a print failed in this call: the put failed, and its
 -- line was printed whole; or the print failed, and a prefix was appended of the text that was being written, which

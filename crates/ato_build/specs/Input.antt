@@ -1,17 +1,15 @@
--- The input of a task: its entry file, its catalogue and the certificate of a check, one phase after the other.
-use Rattle.std.specs.Prelude.{◌≡◌, ℕ, ◌^◌, Option, Ok, Err, ◌⊎◌}
+-- The input of a task: its entry file, its catalogue and the certificate of a check, with what each gives and its first fault.
+use Rattle.std.specs.Prelude.{◌≡◌, ℕ, ◌^◌, Option, Ok, Err}
 use Rattle.std.specs.FinMap.{get}
 use Rattle.ato_base.specs.declared.faults.Fault.{Fault}
 use Rattle.ato_base.specs.declared.faults.FaultKind.TheVariants as kinds
-use Rattle.ato_lexer.specs.declared.first_form.Block.{Block}
 use Rattle.ato_catalog.specs.Contents.{Contents, contents_of}
 use Rattle.ato_outside.specs.Files.{Files}
 use Rattle.ato_words.specs.declared.words.Task.{Task}
 use Rattle.ato_words.specs.declared.words.Task.TheVariants as tasks
-use Rattle.ato_build.specs.Entry.{source_limit, word_fault, GivesBlock, StandsInEntry}
+use Rattle.ato_build.specs.Entry.{source_limit, word_fault}
 use Rattle.ato_build.specs.Found.{Found, Missing, TooLong, Whole, found_of, HasFile}
 use Rattle.ato_build.specs.Projects.{project_of}
-use Rattle.ato_build.specs.declared.project.Project.{Project}
 
 -- The most bytes that a catalogue may have.
 abbrev pub catalogue_limit : ℕ
@@ -46,11 +44,6 @@ pub record Input : Type 0 where
   pub catalogue : Found
   pub certificate : Found
 
--- The files of a project have this input, where they are told.
-pub record HasSources (held : Option Files) (project : Project) (input : Input) : Type 0 where
-  pub entry : HasFile held source_limit project.file input.entry
-  pub catalogue : HasFile held catalogue_limit project.catalogue input.catalogue
-
 -- The certificate's file has this, where it is told. For a build, which reads none, it counts as missing.
 abbrev pub HasCertificate : Option Files → Task → Found → Type 0
 HasCertificate held (tasks.Build build) found = found ≡ Missing
@@ -58,7 +51,8 @@ HasCertificate held (tasks.Check check) found = HasFile held certificate_limit c
 
 -- The files of a task have this input, where they are told.
 pub record HasInput (held : Option Files) (task : Task) (input : Input) : Type 0 where
-  pub sources : HasSources held (project_of task) input
+  pub entry : HasFile held source_limit (project_of task).file input.entry
+  pub catalogue : HasFile held catalogue_limit (project_of task).catalogue input.catalogue
   pub certificate : HasCertificate held task input.certificate
 
 -- what stands at the certificate's name in files that are told
@@ -73,19 +67,3 @@ input_of files task = record {
   catalogue = found_of catalogue_limit (get files (project_of task).catalogue);
   certificate = certificate_of files task;
 }
-
--- The entry gives the block, and the catalogue has the contents.
-pub record Gives (project : Project) (input : Input) (block : Block) (contents : Contents) : Type 0 where
-  pub block_is : GivesBlock project input.entry block
-  pub contents_are : GivesContents input.catalogue contents
-
--- The fault stands in a project: in the entry, or in the catalogue of an entry that gives a block.
-abbrev pub StandsInProject : Project → Input → Fault → Type 0
-StandsInProject project input f =
-    StandsInEntry project input.entry f ⊎ ((block : Block) × GivesBlock project input.entry block × StandsInCatalogue input.catalogue f)
-
--- The fault stands: in the task's project, or in the certificate of a project without a fault.
-abbrev pub Stands : Task → Input → Fault → Type 0
-Stands task input f =
-    StandsInProject (project_of task) input f
-    ⊎ ((block : Block) × (contents : Contents) × Gives (project_of task) input block contents × StandsInCertificate task input.certificate f)

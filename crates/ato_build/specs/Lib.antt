@@ -3,11 +3,12 @@ pub mod Found
 pub mod Entry
 pub mod Projects
 pub mod Input
+pub mod Boards
+pub mod InputStages
 pub mod Outputs
 pub mod Judgements
 pub mod BuiltCertificates
 pub mod Decisions
-pub mod DecisionParts
 pub mod CatalogueRows
 pub mod Fetching
 pub mod Problems

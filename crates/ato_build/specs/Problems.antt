@@ -38,8 +38,3 @@ pub record IsValidFor (part : Option Part) (contents : Contents) (cert : Cert) :
   pub problem : Problem
   pub is_problem : IsProblem part contents problem
   pub valid : IsValid problem cert
-
--- It also has these steps.
-pub record IsCertificate (part : Option Part) (contents : Contents) (steps : ℕ) (cert : Cert) : Type 0 where
-  pub valid : IsValidFor part contents cert
-  pub steps_are : cert.steps ≡ steps

@@ -12,7 +12,7 @@ use Rattle.ato_build.specs.Found.{Whole, HasFile}
 use Rattle.ato_build.specs.Headline.{Means}
 use Rattle.ato_build.specs.Input.{catalogue_limit}
 use Rattle.ato_build.specs.Projects.{project_of}
-use Rattle.ato_build.specs.Texts.{fault_text, said_text}
+use Rattle.ato_build.specs.Texts.{fault_text, files_with, said_text}
 use Rattle.ato_build.specs.declared.answer.Answer.{Answer}
 use Rattle.ato_build.specs.declared.project.Project.{Project}
 use Rattle.ato_build.specs.declared.reading.Reading.{Reading}
@@ -48,5 +48,5 @@ EndsWith status (Err e) = ⊥
 -- Reading ended with the line of this fault, unless memory ran out.
 abbrev pub IsFaultEnd : Project → List ℕ → Fault → Result Reading NoMemory → Type 0
 IsFaultEnd project source f (Ok (Ready sources)) = ⊥
-IsFaultEnd project source f (Ok (Ended answer)) = (answer.status ≡ answers.Fault f) × (said_text answer.said ≡ fault_text project source f)
+IsFaultEnd project source f (Ok (Ended answer)) = (answer.status ≡ answers.Fault f) × (said_text answer.said ≡ fault_text (files_with project source) f)
 IsFaultEnd project source f (Err e) = Unit {0}

@@ -1,11 +1,16 @@
 -- The printed texts, as functions of what is printed and of the bytes that it lies in.
-use Rattle.std.specs.Prelude.{ℕ, ◌+◌, ◌≤◌, Bool, ◌||◌, not, ◌==◌, nat_lt, nat_le, List, ◌++◌, length, take, reverse, take_while, count_by, codes, string_bytes}
+use Rattle.std.specs.Prelude.{ℕ, ◌+◌, ◌≤◌, Bool, ◌||◌, not, ◌==◌, nat_lt, nat_le, List, [], ◌++◌, Option, Some, None, length, take, reverse, take_while, count_by, codes, string_bytes}
 use Rattle.std.specs.Fmt.{decimal}
 use Rattle.ato_base.specs.Faults.{kind_number, kind_name}
 use Rattle.ato_base.specs.declared.faults.Fault.{Fault}
 use Rattle.ato_base.specs.declared.nets.NetList.{NetList}
+use Rattle.ato_base.specs.declared.places.FileId.{FileId}
 use Rattle.ato_base.specs.declared.places.Place.{Place}
 use Rattle.ato_base.specs.declared.places.Place.TheVariants as places
+use Rattle.ato_words.specs.declared.words.Task.{Task}
+use Rattle.ato_build.specs.Found.{bytes_of}
+use Rattle.ato_build.specs.Input.{Input}
+use Rattle.ato_build.specs.Projects.{project_of}
 use Rattle.ato_build.specs.declared.project.Project.{Project}
 use Rattle.ato_build.specs.declared.answer.Said.{Said}
 use Rattle.ato_build.specs.declared.answer.Said.TheVariants as said
@@ -29,16 +34,44 @@ place_in_text file row column = file ++ (codes ":" ++ (decimal row ++ (codes ":"
 unfoldable pub word_text : ℕ → List ℕ
 word_text word = codes "word " ++ decimal word
 
--- a place: in the source, in the catalogue, or at a word
-abbrev pub place_text : Project → List ℕ → Place → List ℕ
-place_text project source (places.Source span) = place_in_text project.file (line_at source span.start) (column_at source span.start)
-place_text project source (places.Cell row column) = place_in_text project.catalogue row column
-place_text project source (places.Word word) = word_text word
+-- a source file: its name, and its bytes as far as it was read
+pub record SourceFile : Type 0 where
+  pub name : List ℕ
+  pub bytes : List ℕ
 
--- the line of a fault. No fault has a second place or a path yet.
-unfoldable pub fault_text : Project → List ℕ → Fault → List ℕ
-fault_text project source f =
-    codes "fault F" ++ (decimal (kind_number f.kind) ++ (codes " " ++ (kind_name f.kind ++ (codes " " ++ (place_text project source f.at ++ codes "\n")))))
+-- the files in which faults may stand: the source files by their numbers, and the catalogue's name
+pub record FaultFiles : Type 0 where
+  pub source : FileId → SourceFile
+  pub catalogue : List ℕ
+
+-- the files of a project, whose one source file is the entry
+abbrev pub files_with : Project → List ℕ → FaultFiles
+files_with project source = record { source = λ file. record { name = project.file; bytes = source }; catalogue = project.catalogue }
+
+-- a place in a source file
+abbrev pub source_text : SourceFile → ℕ → List ℕ
+source_text file at = place_in_text file.name (line_at file.bytes at) (column_at file.bytes at)
+
+-- a place: in a source file, in the catalogue, or at a word
+abbrev pub place_text : FaultFiles → Place → List ℕ
+place_text files (places.Source span) = source_text (files.source span.file) span.start
+place_text files (places.Cell row column) = place_in_text files.catalogue row column
+place_text files (places.Word word) = word_text word
+
+-- a second place, where there is one
+unfoldable pub also_text : FaultFiles → Option Place → List ℕ
+also_text files None = []
+also_text files (Some place) = codes " also " ++ place_text files place
+
+-- the line of a fault. No fault has a path yet.
+unfoldable pub fault_text : FaultFiles → Fault → List ℕ
+fault_text files f =
+    codes "fault F"
+    ++ (decimal (kind_number f.kind) ++ (codes " " ++ (kind_name f.kind ++ (codes " " ++ (place_text files f.at ++ (also_text files f.other ++ codes "\n"))))))
+
+-- the line of a fault that stands in the input of a task
+abbrev pub fault_line : Task → Input → Fault → List ℕ
+fault_line task input f = fault_text (files_with (project_of task) (bytes_of input.entry)) f
 
 -- what is printed of a verdict: how many nets and parts the net list has
 unfoldable pub verdict_text : List ℕ → NetList → List ℕ

@@ -8,10 +8,11 @@ ghost use Rattle.ato_catalog.specs.Contents.{Contents};
 ghost use Rattle.ato_catalog.specs.WellMade as catalogues;
 ghost use Rattle.ato_cert.specs.Problems.{IsWellMade, HasAtMost, HasNumbersBelow};
 ghost use Rattle.ato_cert.specs.Texts.{proof_word};
-ghost use Rattle.ato_first.specs.FirstParts.{part_of, HasRanges};
+ghost use Rattle.ato_first.specs.FirstParts.{HasRanges};
 ghost use Rattle.ato_outside.specs.Causes.{Rose};
 ghost use Rattle.ato_outside.specs.Files.{Files};
 ghost use Rattle.ato_build.specs.Answers.{IsAnswer};
+ghost use Rattle.ato_build.specs.Boards.{board_of};
 ghost use Rattle.ato_build.specs.Causes.{IsVerdict, HasStatus, CountsReads};
 ghost use Rattle.ato_build.specs.Entry.{GivesBlock};
 ghost use Rattle.ato_build.specs.Found.{Whole};
@@ -114,7 +115,7 @@ fn judge_block(
     requires size { length bytes.now ≤ certificate_limit }
     ensures verdict { IfOk result (λ answer. IsVerdict answer.status) }
     ensures judgement { IfOk result (λ answer. (contents : Contents) → ShowsContents catalog.now contents
-        → IsJudgement (part_of block.now.lines) contents bytes.now answer.status (said_text answer.said)) }
+        → IsJudgement (board_of block.now contents) bytes.now answer.status (said_text answer.said)) }
 {
     let problem = problem_of(alloc, part_of(block.lines.as_slice()), catalog)?;
     judge(alloc, &problem, bytes)

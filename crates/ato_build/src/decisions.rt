@@ -8,8 +8,8 @@ ghost use Rattle.ato_catalog.specs.Contents.{Contents, numbered};
 ghost use Rattle.ato_catalog.specs.WellMade.{IsWellMade};
 ghost use Rattle.ato_cert.specs.Nodes as counting;
 ghost use Rattle.ato_build.specs.Causes.{IsEnd};
-ghost use Rattle.ato_build.specs.Decisions.{IsDecision, net_output, cert_output};
-ghost use Rattle.ato_build.specs.DecisionParts.{PutsBuilt, PutsRefuted};
+ghost use Rattle.ato_build.specs.Boards.{board_of};
+ghost use Rattle.ato_build.specs.Decisions.{IsDecision, PutsBuilt, PutsRefuted, net_output, cert_output};
 ghost use Rattle.ato_first.specs.FirstParts.{part_of, slot_count, HasRanges, comp_value};
 ghost use Rattle.ato_first.specs.FirstPoints.{AreKnown};
 
@@ -124,7 +124,8 @@ fn build_pick(
     requires known { AreKnown block.now }
     requires few { counting.nodes cert.now.proof < 2 ^ 32 }
     ensures status { IfOk result (λ decision. decision.status ≡ Status.Built) }
-    ensures made { IfOk result (λ decision. (contents : Contents) → ShowsContents catalog.now contents → PutsBuilt options.now block.now contents pick.now cert.now decision) }
+    ensures made { IfOk result (λ decision. (contents : Contents) → ShowsContents catalog.now contents
+        → PutsBuilt options.now (board_of block.now contents) pick.now cert.now decision.outputs.items (string_bytes decision.summary)) }
 {
     let slots = slot_count(block);
     let list = list_of(alloc, block, comp_value(block, catalog, pick), slots)?;
@@ -147,7 +148,8 @@ fn refute_picks(
     requires known { AreKnown block.now }
     requires few { counting.nodes cert.now.proof < 2 ^ 32 }
     ensures status { IfOk result (λ decision. decision.status ≡ Status.Refuted) }
-    ensures made { IfOk result (λ decision. (contents : Contents) → PutsRefuted options.now block.now contents cert.now decision) }
+    ensures made { IfOk result (λ decision. (contents : Contents)
+        → PutsRefuted options.now (board_of block.now contents) cert.now decision.outputs.items (string_bytes decision.summary)) }
 {
     let slots = slot_count(block);
     let list = list_of(alloc, block, block.name.as_str(), slots)?;
@@ -173,7 +175,7 @@ pub(crate) fn decide(
     requires made { IsWellMade catalog.now }
     ensures end { IfOk result (λ decision. IsEnd decision.status) }
     ensures decision { IfOk result (λ decision. (contents : Contents) → ShowsContents catalog.now contents
-        → IsDecision options.now block.now contents decision.status decision.outputs.items (string_bytes decision.summary)) }
+        → IsDecision options.now (board_of block.now contents) decision.status decision.outputs.items (string_bytes decision.summary)) }
 {
     let problem = problem_of(alloc, part_of(block.lines.as_slice()), catalog)?;
     let cert = search(alloc, &problem, options.steps)?;

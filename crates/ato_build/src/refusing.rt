@@ -1,6 +1,6 @@
 //! The answers where the input has a fault or could not be read.
-ghost use Rattle.std.specs.Prelude.{◌≡◌, IfOk};
-ghost use Rattle.ato_build.specs.Texts.{fault_text, said_text, LiesWithin, read_fault_text};
+ghost use Rattle.std.specs.Prelude.{◌≡◌, IfOk, IfSome};
+ghost use Rattle.ato_build.specs.Texts.{fault_text, files_with, said_text, LiesWithin, read_fault_text};
 
 use crate::Status;
 use crate::answer::{Answer, Said};
@@ -16,9 +16,10 @@ pub(crate) fn refuse(
     source: &[u8],
     fault: Fault,
 ) -> Result<Answer, NoMemory>
-    requires { LiesWithin source.now fault.at }
+    requires at { LiesWithin source.now fault.at }
+    requires other { IfSome fault.other (LiesWithin source.now) }
     ensures status { IfOk result (λ answer. answer.status ≡ Status.Fault fault) }
-    ensures said { IfOk result (λ answer. said_text answer.said ≡ fault_text project.now source.now fault) }
+    ensures said { IfOk result (λ answer. said_text answer.said ≡ fault_text (files_with project.now source.now) fault) }
 {
     let text = fault_text(alloc, project, source, &fault)?;
     Ok(Answer {

@@ -1,25 +1,21 @@
 ghost use Rattle.std.specs.Prelude.{◌≡◌, ◌≢◌, ◌<◌, ◌≤◌, ◌⊎◌, List, ℕ, IfSome};
 ghost use Rattle.ato_base.specs.declared.faults.Fault.{Fault};
 ghost use Rattle.ato_base.specs.declared.faults.FaultKind.TheVariants as kinds;
-ghost use Rattle.ato_lexer.specs.declared.first_form.Block.{Block};
-ghost use Rattle.ato_catalog.specs.Contents.{Contents};
 ghost use Rattle.ato_cert.specs.Texts.{cert_text};
 ghost use Rattle.ato_cert.specs.declared.cert.Cert.{Cert};
-ghost use Rattle.ato_first.specs.FirstParts.{part_of, IsGoodPick, NoGoodPick};
 ghost use Rattle.ato_outside.specs.Causes.{Rose};
 ghost use Rattle.ato_words.specs.Words.{texts, IsBuild, IsCheck, IsJob, IsNoJob};
 ghost use Rattle.ato_words.specs.declared.words.Build.{Build};
 ghost use Rattle.ato_words.specs.declared.words.Check.{Check};
 ghost use Rattle.ato_words.specs.declared.words.Task.{Task};
 ghost use Rattle.ato_words.specs.declared.words.Task.TheVariants as tasks;
+ghost use Rattle.ato_build.specs.Boards.{Board, IsGood, NoGood, IsValidOn};
 ghost use Rattle.ato_build.specs.BuiltCertificates.{IsBuiltCertificate};
 ghost use Rattle.ato_build.specs.Causes.{EndsOutside, IsDone, IsRejected};
-ghost use Rattle.ato_build.specs.Found.{Whole};
 ghost use Rattle.ato_build.specs.Headline.{Headline, IsToldWriteFault};
-ghost use Rattle.ato_build.specs.Input.{input_of, certificate_of, Gives, Stands};
+ghost use Rattle.ato_build.specs.Input.{input_of};
+ghost use Rattle.ato_build.specs.InputStages.{Stands, GivesBoard, GivesCertificate};
 ghost use Rattle.ato_build.specs.Judgements.{IsNoValidCertificate};
-ghost use Rattle.ato_build.specs.Problems.{IsValidFor};
-ghost use Rattle.ato_build.specs.Projects.{built_project, checked_project};
 
 use crate::Status;
 use crate::answer::Answer;
@@ -68,22 +64,16 @@ pub fn run<S: Shelf, T: Tray, O: Sink>(
     ensures usage_where { IsNoJob (texts words.now.items) → (result ≡ Status.Usage) ⊎ (result ≡ Status.NoMemory) ⊎ (result ≡ Status.WriteFault) }
     ensures fault_where { IfSome (S.files shelf.old) (λ files. (task : Task) (f : Fault) → IsJob (texts words.now.items) task
         → Stands task (input_of files task) f → (result ≡ Status.Fault f) ⊎ EndsOutside result) }
-    ensures built_where { IfSome (S.files shelf.old) (λ files. (build : Build) (block : Block) (contents : Contents) (pick : List ℕ)
-        → IsBuild (texts words.now.items) build → Gives (built_project build) (input_of files (tasks.Build build)) block contents
-        → IsGoodPick (part_of block.lines) contents pick → (result ≡ Status.Built) ⊎ EndsOutside result) }
-    ensures refuted_where { IfSome (S.files shelf.old) (λ files. (build : Build) (block : Block) (contents : Contents)
-        → IsBuild (texts words.now.items) build → Gives (built_project build) (input_of files (tasks.Build build)) block contents
-        → NoGoodPick (part_of block.lines) contents → (result ≡ Status.Refuted) ⊎ EndsOutside result) }
+    ensures built_where { IfSome (S.files shelf.old) (λ files. (build : Build) (board : Board) (pick : List ℕ) → IsBuild (texts words.now.items) build
+        → GivesBoard (tasks.Build build) (input_of files (tasks.Build build)) board → IsGood board pick → (result ≡ Status.Built) ⊎ EndsOutside result) }
+    ensures refuted_where { IfSome (S.files shelf.old) (λ files. (build : Build) (board : Board) → IsBuild (texts words.now.items) build
+        → GivesBoard (tasks.Build build) (input_of files (tasks.Build build)) board → NoGood board → (result ≡ Status.Refuted) ⊎ EndsOutside result) }
 
     // The text of a valid certificate is accepted, whoever wrote it, and other bytes are rejected.
-    ensures accepted_where { IfSome (S.files shelf.old) (λ files. (check : Check) (block : Block) (contents : Contents) (cert : Cert)
-        → IsCheck (texts words.now.items) check → Gives (checked_project check) (input_of files (tasks.Check check)) block contents
-        → certificate_of files (tasks.Check check) ≡ Whole (cert_text cert) → IsValidFor (part_of block.lines) contents cert
-        → (result ≡ Status.Accepted) ⊎ EndsOutside result) }
-    ensures rejected_where { IfSome (S.files shelf.old) (λ files. (check : Check) (block : Block) (contents : Contents) (bytes : List ℕ)
-        → IsCheck (texts words.now.items) check → Gives (checked_project check) (input_of files (tasks.Check check)) block contents
-        → certificate_of files (tasks.Check check) ≡ Whole bytes → IsNoValidCertificate (part_of block.lines) contents bytes
-        → IsRejected result ⊎ EndsOutside result) }
+    ensures accepted_where { IfSome (S.files shelf.old) (λ files. (check : Check) (board : Board) (cert : Cert) → IsCheck (texts words.now.items) check
+        → GivesCertificate check (input_of files (tasks.Check check)) board (cert_text cert) → IsValidOn board cert → (result ≡ Status.Accepted) ⊎ EndsOutside result) }
+    ensures rejected_where { IfSome (S.files shelf.old) (λ files. (check : Check) (board : Board) (bytes : List ℕ) → IsCheck (texts words.now.items) check
+        → GivesCertificate check (input_of files (tasks.Check check)) board bytes → IsNoValidCertificate board bytes → IsRejected result ⊎ EndsOutside result) }
 
     // What a build puts as its certificate a check of the same project accepts.
     ensures built_accepted { IfSome (S.files shelf.old) (λ files. (check : Check) → IsCheck (texts words.now.items) check

@@ -1,5 +1,5 @@
-ghost use Rattle.std.specs.Prelude.{◌≡◌, ◌≤◌, IfOk, length, string_bytes};
-ghost use Rattle.ato_build.specs.Texts.{line_at, begins_char, column_at, place_in_text, word_text, place_text, fault_text, verdict_text, problem_text, summary_text, read_fault_text, accepted_text, rejected_text, usage_text, LiesWithin};
+ghost use Rattle.std.specs.Prelude.{◌≡◌, ◌≤◌, IfOk, IfSome, length, string_bytes};
+ghost use Rattle.ato_build.specs.Texts.{line_at, begins_char, column_at, place_in_text, word_text, files_with, place_text, also_text, fault_text, verdict_text, problem_text, summary_text, read_fault_text, accepted_text, rejected_text, usage_text, LiesWithin};
 
 use crate::project::Project;
 use ato_base::{Fault, NetList, NoMemory, Place};
@@ -55,7 +55,7 @@ fn place_text(
     place: &Place,
 ) -> Result<String, NoMemory>
     requires { LiesWithin source.now place.now }
-    ensures { IfOk result (λ text. string_bytes text ≡ place_text project.now source.now place.now) }
+    ensures { IfOk result (λ text. string_bytes text ≡ place_text (files_with project.now source.now) place.now) }
 {
     match place {
         Place::Source(span) => {
@@ -74,6 +74,27 @@ fn place_text(
     }
 }
 
+/// A second place behind the first, where there is one.
+#[tactic(auto, unfolding(crate::specs::Texts::also_text))]
+fn also_text(
+    alloc: Global,
+    project: &Project,
+    source: &[u8],
+    other: &Option<Place>,
+) -> Result<String, NoMemory>
+    requires { IfSome other.now (LiesWithin source.now) }
+    ensures { IfOk result (λ text. string_bytes text ≡ also_text (files_with project.now source.now) other.now) }
+{
+    match other {
+        None => Ok(String::new(alloc)),
+        Some(place) => {
+            let place = place_text(alloc, project, source, place)?;
+            let place = place.as_str();
+            Ok(format!(in alloc; " also {place}")?)
+        }
+    }
+}
+
 /// The line of a fault.
 #[tactic(auto, unfolding(crate::specs::Texts::fault_text))]
 pub(crate) fn fault_text(
@@ -82,14 +103,17 @@ pub(crate) fn fault_text(
     source: &[u8],
     fault: &Fault,
 ) -> Result<String, NoMemory>
-    requires { LiesWithin source.now fault.now.at }
-    ensures { IfOk result (λ text. string_bytes text ≡ fault_text project.now source.now fault.now) }
+    requires at { LiesWithin source.now fault.now.at }
+    requires other { IfSome fault.now.other (LiesWithin source.now) }
+    ensures { IfOk result (λ text. string_bytes text ≡ fault_text (files_with project.now source.now) fault.now) }
 {
     let number = fault.kind.number();
     let name = fault.kind.name();
     let place = place_text(alloc, project, source, &fault.at)?;
     let place = place.as_str();
-    Ok(format!(in alloc; "fault F{number} {name} {place}\n")?)
+    let also = also_text(alloc, project, source, &fault.other)?;
+    let also = also.as_str();
+    Ok(format!(in alloc; "fault F{number} {name} {place}{also}\n")?)
 }
 
 /// The lines for a verdict and the sizes of its net list.

@@ -1,5 +1,4 @@
 use Rattle.std.proofs.Common.{subst}
-use Rattle.ato_first.specs.FirstParts.{part_of}
 use Rattle.ato_first.proofs.FirstPartLemmas.{shown, shown_in_order}
 use Rattle.ato_build.specs.Problems.{IsProblem}
 use Rattle.ato_build.proofs.CheckLemmas.{judgement_of}
@@ -11,6 +10,6 @@ problem_of-requires-clause-order c =
 
 pub returns-clause-judgement : goal.returns-clause-judgement
 returns-clause-judgement c =
-    judgement_of (part_of c.args.block.now.lines) c.args.catalog.now c.in_ok-problem.problem c.args.bytes.now c.judge.result c.requires.made c.in_ok-problem.ensures.made
+    judgement_of c.args.block.now c.args.catalog.now c.in_ok-problem.problem c.args.bytes.now c.judge.result c.requires.made c.in_ok-problem.ensures.made
     (λ contents shows. subst (λ p. IsProblem p contents c.in_ok-problem.problem) (shown c.as_slice.result.now c.args.block.now.lines c.part_of.result c.as_slice.ensures c.part_of.ensures) (c.in_ok-problem.ensures.problem contents shows))
     c.judge.ensures.judged

@@ -2,14 +2,17 @@ use Rattle.std.proofs.Common.{subst, sym, ◌∙◌}
 use Rattle.ato_build.specs.Entry.{IsRefused, StandsInEntry}
 use Rattle.ato_build.specs.Found.{Whole}
 use Rattle.ato_build.proofs.ReadingLemmas.{entry_end}
-use Rattle.ato_build.proofs.WithinLemmas.{stands_within}
+use Rattle.ato_build.proofs.WithinLemmas.{stands_within, stands_alone, alone_within}
 use Rattle.ato_build.proofs.reading.read_block.Goals as goal
 
 pub fault_end-requires : goal.fault_end-requires
 fault_end-requires g c =
-    stands_within c.args.project.now c.as_slice-in-Fault.result.now c.in-Fault.fault
-    (subst (λ s. StandsInEntry c.args.project.now (Whole s) c.in-Fault.fault) (c.as_slice.ensures ∙ sym c.as_slice-in-Fault.ensures)
-    (subst (IsRefused c.args.project.now (Whole c.as_slice.result.now)) c.in-Fault.is c.in-Err.ensures.refused))
+    let stands = subst (λ s. StandsInEntry c.args.project.now (Whole s) c.in-Fault.fault) (c.as_slice.ensures ∙ sym c.as_slice-in-Fault.ensures)
+    (subst (IsRefused c.args.project.now (Whole c.as_slice.result.now)) c.in-Fault.is c.in-Err.ensures.refused) in
+    record {
+      at = stands_within c.args.project.now c.as_slice-in-Fault.result.now c.in-Fault.fault stands;
+      other = alone_within c.as_slice-in-Fault.result.now c.in-Fault.fault (stands_alone c.args.project.now c.as_slice-in-Fault.result.now c.in-Fault.fault stands);
+    }
 
 pub returns-in-Fault-clause-reading : goal.returns-in-Fault-clause-reading
 returns-in-Fault-clause-reading g c =

@@ -1,5 +1,5 @@
-use Rattle.ato_build.specs.Found.{Missing, TooLong}
-use Rattle.ato_build.proofs.ReadingLemmas.{catalogue_end, has_missing, has_long}
+use Rattle.ato_build.specs.Found.{Missing, TooLong, Whole}
+use Rattle.ato_build.proofs.ReadingLemmas.{catalogue_end, catalogue_unread, has_missing, has_long}
 use Rattle.ato_build.proofs.reading.read_catalogue.Goals as goal
 
 pub returns-in-Missing-clause-reading : goal.returns-in-Missing-clause-reading
@@ -16,3 +16,8 @@ returns-in-TooLong-clause-reading g c =
 
 pub returns-in-Whole-clause-missing : goal.returns-in-Whole-clause-missing
 returns-in-Whole-clause-missing g c = λ f with is. absurd (c.sources_of.ensures.not_missing f with is)
+
+pub returns-in_ok-unread-in-Failed-clause-reading : goal.returns-in_ok-unread-in-Failed-clause-reading
+returns-in_ok-unread-in-Failed-clause-reading g c = λ read.
+    catalogue_unread (g.S.Shelf.files c.args.shelf.now) c.args.project.now c.as_str-in-Failed.result.now c.in_ok-unread-in-Failed.field-0 c.in_ok-unread-in-Failed.ensures.status c.in_ok-unread-in-Failed.ensures.said
+    (Whole c.args.source) c.args.block read c.requires c.as_str-in-Failed.ensures

@@ -1,6 +1,6 @@
 use Rattle.std.proofs.Common.{refl, []}
 use Rattle.ato_build.specs.Found.{Missing, TooLong}
-use Rattle.ato_build.proofs.ReadingLemmas.{entry_ended, has_missing, has_long, rose_since}
+use Rattle.ato_build.proofs.ReadingLemmas.{entry_ended, entry_unread, has_missing, has_long, rose_since}
 use Rattle.ato_build.proofs.reading.read_project.Goals as goal
 
 pub returns-in-Missing-clause-reading : goal.returns-in-Missing-clause-reading
@@ -17,3 +17,8 @@ returns-in-TooLong-clause-reading g c =
 
 pub returns-in-Whole-clause-missing : goal.returns-in-Whole-clause-missing
 returns-in-Whole-clause-missing g c = λ f with is. rose_since _ _ _ c.in_ok-fetch.ensures.misses (c.read_block.ensures.missing f with is)
+
+pub returns-in_ok-unread-in-Failed-clause-reading : goal.returns-in_ok-unread-in-Failed-clause-reading
+returns-in_ok-unread-in-Failed-clause-reading g c =
+    entry_unread (g.S.Shelf.files c.args.shelf.now) c.args.project.now c.as_str-in-Failed.result.now c.in_ok-unread-in-Failed.field-0 c.in_ok-unread-in-Failed.ensures.status c.in_ok-unread-in-Failed.ensures.said
+    c.as_str-in-Failed.ensures

@@ -2,11 +2,13 @@ use Rattle.std.proofs.Common.{subst}
 use Rattle.ato_catalog.specs.Catalogue.{IsRefused}
 use Rattle.ato_catalog.proofs.PlaceLaws.{in_cell}
 use Rattle.ato_build.proofs.ReadingLemmas.{contents_end, fault_not_missing}
-use Rattle.ato_build.proofs.WithinLemmas.{cell_within}
+use Rattle.ato_build.proofs.WithinLemmas.{cell_within, alone_within}
 use Rattle.ato_build.proofs.reading.sources_of.Goals as goal
 
 pub fault_end-requires : goal.fault_end-requires
-fault_end-requires c = cell_within c.as_slice.result.now c.in-Fault.fault (in_cell c.args.bytes.now c.in-Fault.fault (subst (IsRefused c.args.bytes.now) c.in-Fault.is c.in-Err.ensures.fault))
+fault_end-requires c =
+    let cell = in_cell c.args.bytes.now c.in-Fault.fault (subst (IsRefused c.args.bytes.now) c.in-Fault.is c.in-Err.ensures.fault) in
+    record { at = cell_within c.as_slice.result.now c.in-Fault.fault cell; other = alone_within c.as_slice.result.now c.in-Fault.fault cell.other }
 
 pub returns-in-Fault-clause-reading : goal.returns-in-Fault-clause-reading
 returns-in-Fault-clause-reading c =
