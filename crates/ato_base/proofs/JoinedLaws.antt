@@ -1,5 +1,7 @@
 -- Being joined is an equivalence, and the least one that holds the direct joins.
+use Rattle.std.proofs.Common.{◌≡◌, true}
 use Rattle.ato_base.specs.Joined.{Joined, same, along, against}
+use Rattle.ato_base.specs.LeastEquivalence.{IsLeastEquivalence}
 
 module _ {P : Type 0} (D : P → P → Type 0) where
   pub joined_direct : {p q : P} → D p q → Joined D p q
@@ -21,6 +23,16 @@ module _ {P : Type 0} (D : P → P → Type 0) where
   joined_least E self flip chain holds same = self _
   joined_least E self flip chain holds (along d h) = chain _ _ _ (holds _ _ d) (joined_least E self flip chain holds h)
   joined_least E self flip chain holds (against d h) = chain _ _ _ (flip _ _ (holds _ _ d)) (joined_least E self flip chain holds h)
+
+  -- the same, for the equivalences that are decided
+  pub joined_is_least : IsLeastEquivalence D (Joined D)
+  joined_is_least = record {
+    self = λ p. same;
+    flip = λ p q. joined_sym;
+    chain = λ p q r. joined_trans;
+    holds = λ p q. joined_direct;
+    least = λ other self flip chain holds p q. joined_least (λ a b. other a b ≡ true) self flip chain holds;
+  }
 
 -- What joined points stand for is joined, where what directly joined points stand for is.
 pub joined_map : {P Q : Type 0} (D : P → P → Type 0) (E : Q → Q → Type 0) (f : P → Q) → ((p q : P) → D p q → E (f p) (f q)) → {p q : P} → Joined D p q → Joined E (f p) (f q)

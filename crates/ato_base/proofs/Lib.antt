@@ -1,4 +1,5 @@
 pub mod ClassLaws
 pub mod JoinedLaws
 pub mod StageLaws
+pub mod NameTableLaws
 pub mod Tables

@@ -1,69 +1,45 @@
+-- The kinds of fault.
 use Rattle.std.specs.Prelude.{ℕ, List, codes}
 use Rattle.ato_base.specs.declared.faults.FaultKind.{FaultKind}
 use Rattle.ato_base.specs.declared.faults.FaultKind.TheVariants as kinds
 
--- the number of a kind of fault, which is printed behind an F
-abbrev pub kind_number : FaultKind → ℕ
-kind_number kinds.BadText = 1
-kind_number kinds.BadChar = 2
-kind_number kinds.OpenString = 3
-kind_number kinds.BadIndent = 4
-kind_number kinds.WideNumber = 5
-kind_number kinds.Syntax = 6
-kind_number kinds.TooDeep = 7
-kind_number kinds.FileMissing = 8
-kind_number kinds.FileTooLong = 9
-kind_number kinds.TooManyFiles = 10
-kind_number kinds.NameUnknown = 11
-kind_number kinds.NameTwice = 12
-kind_number kinds.SuperLoop = 13
-kind_number kinds.NestLoop = 14
-kind_number kinds.NoSuchMember = 15
-kind_number kinds.NotSpecial = 16
-kind_number kinds.TreeTooLarge = 17
-kind_number kinds.WrongKind = 18
-kind_number kinds.CannotConnect = 19
-kind_number kinds.NoHeader = 20
-kind_number kinds.ColumnTwice = 21
-kind_number kinds.BadRow = 22
-kind_number kinds.BadCell = 23
-kind_number kinds.PartTwice = 24
-kind_number kinds.TooManyRows = 25
-kind_number kinds.UnitFault = 26
-kind_number kinds.Unvalued = 27
-kind_number kinds.DefinitionLoop = 28
-kind_number kinds.EmptyRange = 29
-kind_number kinds.ProblemTooLarge = 30
+-- the number and the name of each kind of fault
+abbrev pub kind_line : FaultKind → ℕ × List ℕ
+kind_line kinds.BadText = (1, codes "BadText")
+kind_line kinds.BadChar = (2, codes "BadChar")
+kind_line kinds.OpenString = (3, codes "OpenString")
+kind_line kinds.BadIndent = (4, codes "BadIndent")
+kind_line kinds.WideNumber = (5, codes "WideNumber")
+kind_line kinds.Syntax = (6, codes "Syntax")
+kind_line kinds.TooDeep = (7, codes "TooDeep")
+kind_line kinds.FileMissing = (8, codes "FileMissing")
+kind_line kinds.FileTooLong = (9, codes "FileTooLong")
+kind_line kinds.TooManyFiles = (10, codes "TooManyFiles")
+kind_line kinds.NameUnknown = (11, codes "NameUnknown")
+kind_line kinds.NameTwice = (12, codes "NameTwice")
+kind_line kinds.SuperLoop = (13, codes "SuperLoop")
+kind_line kinds.NestLoop = (14, codes "NestLoop")
+kind_line kinds.NoSuchMember = (15, codes "NoSuchMember")
+kind_line kinds.NotSpecial = (16, codes "NotSpecial")
+kind_line kinds.TreeTooLarge = (17, codes "TreeTooLarge")
+kind_line kinds.WrongKind = (18, codes "WrongKind")
+kind_line kinds.CannotConnect = (19, codes "CannotConnect")
+kind_line kinds.NoHeader = (20, codes "NoHeader")
+kind_line kinds.ColumnTwice = (21, codes "ColumnTwice")
+kind_line kinds.BadRow = (22, codes "BadRow")
+kind_line kinds.BadCell = (23, codes "BadCell")
+kind_line kinds.PartTwice = (24, codes "PartTwice")
+kind_line kinds.TooManyRows = (25, codes "TooManyRows")
+kind_line kinds.UnitFault = (26, codes "UnitFault")
+kind_line kinds.Unvalued = (27, codes "Unvalued")
+kind_line kinds.DefinitionLoop = (28, codes "DefinitionLoop")
+kind_line kinds.EmptyRange = (29, codes "EmptyRange")
+kind_line kinds.ProblemTooLarge = (30, codes "ProblemTooLarge")
 
--- the printed name of a kind of fault
+-- the number, which is printed behind an F
+abbrev pub kind_number : FaultKind → ℕ
+kind_number kind = (kind_line kind).0
+
+-- the name, which is printed behind the number
 abbrev pub kind_name : FaultKind → List ℕ
-kind_name kinds.BadText = codes "BadText"
-kind_name kinds.BadChar = codes "BadChar"
-kind_name kinds.OpenString = codes "OpenString"
-kind_name kinds.BadIndent = codes "BadIndent"
-kind_name kinds.WideNumber = codes "WideNumber"
-kind_name kinds.Syntax = codes "Syntax"
-kind_name kinds.TooDeep = codes "TooDeep"
-kind_name kinds.FileMissing = codes "FileMissing"
-kind_name kinds.FileTooLong = codes "FileTooLong"
-kind_name kinds.TooManyFiles = codes "TooManyFiles"
-kind_name kinds.NameUnknown = codes "NameUnknown"
-kind_name kinds.NameTwice = codes "NameTwice"
-kind_name kinds.SuperLoop = codes "SuperLoop"
-kind_name kinds.NestLoop = codes "NestLoop"
-kind_name kinds.NoSuchMember = codes "NoSuchMember"
-kind_name kinds.NotSpecial = codes "NotSpecial"
-kind_name kinds.TreeTooLarge = codes "TreeTooLarge"
-kind_name kinds.WrongKind = codes "WrongKind"
-kind_name kinds.CannotConnect = codes "CannotConnect"
-kind_name kinds.NoHeader = codes "NoHeader"
-kind_name kinds.ColumnTwice = codes "ColumnTwice"
-kind_name kinds.BadRow = codes "BadRow"
-kind_name kinds.BadCell = codes "BadCell"
-kind_name kinds.PartTwice = codes "PartTwice"
-kind_name kinds.TooManyRows = codes "TooManyRows"
-kind_name kinds.UnitFault = codes "UnitFault"
-kind_name kinds.Unvalued = codes "Unvalued"
-kind_name kinds.DefinitionLoop = codes "DefinitionLoop"
-kind_name kinds.EmptyRange = codes "EmptyRange"
-kind_name kinds.ProblemTooLarge = codes "ProblemTooLarge"
+kind_name kind = (kind_line kind).1

@@ -1,5 +1,6 @@
 pub mod Joined
 pub mod Stages
+pub mod LeastEquivalence
 pub mod Classes
 pub mod Lending
 pub mod Faults

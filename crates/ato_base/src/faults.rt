@@ -1,5 +1,5 @@
 ghost use Rattle.std.specs.Prelude.{◌≡◌};
-ghost use Rattle.ato_base.specs.Faults.{kind_number, kind_name};
+ghost use Rattle.ato_base.specs.Faults.{kind_line, kind_number, kind_name};
 
 use crate::{List, Name, NoMemory, Place};
 
@@ -69,49 +69,57 @@ pub enum FaultKind {
 }
 
 impl FaultKind {
+    /// The number and the name of each kind.
+    fn line(&self) -> (u8, &'static str)
+        ensures number { result.0 ≡ (kind_line self.now).0 }
+        ensures name { result.1.now ≡ (kind_line self.now).1 }
+    {
+        match self {
+            FaultKind::BadText => (1, "BadText"),
+            FaultKind::BadChar => (2, "BadChar"),
+            FaultKind::OpenString => (3, "OpenString"),
+            FaultKind::BadIndent => (4, "BadIndent"),
+            FaultKind::WideNumber => (5, "WideNumber"),
+            FaultKind::Syntax => (6, "Syntax"),
+            FaultKind::TooDeep => (7, "TooDeep"),
+            FaultKind::FileMissing => (8, "FileMissing"),
+            FaultKind::FileTooLong => (9, "FileTooLong"),
+            FaultKind::TooManyFiles => (10, "TooManyFiles"),
+            FaultKind::NameUnknown => (11, "NameUnknown"),
+            FaultKind::NameTwice => (12, "NameTwice"),
+            FaultKind::SuperLoop => (13, "SuperLoop"),
+            FaultKind::NestLoop => (14, "NestLoop"),
+            FaultKind::NoSuchMember => (15, "NoSuchMember"),
+            FaultKind::NotSpecial => (16, "NotSpecial"),
+            FaultKind::TreeTooLarge => (17, "TreeTooLarge"),
+            FaultKind::WrongKind => (18, "WrongKind"),
+            FaultKind::CannotConnect => (19, "CannotConnect"),
+            FaultKind::NoHeader => (20, "NoHeader"),
+            FaultKind::ColumnTwice => (21, "ColumnTwice"),
+            FaultKind::BadRow => (22, "BadRow"),
+            FaultKind::BadCell => (23, "BadCell"),
+            FaultKind::PartTwice => (24, "PartTwice"),
+            FaultKind::TooManyRows => (25, "TooManyRows"),
+            FaultKind::UnitFault => (26, "UnitFault"),
+            FaultKind::Unvalued => (27, "Unvalued"),
+            FaultKind::DefinitionLoop => (28, "DefinitionLoop"),
+            FaultKind::EmptyRange => (29, "EmptyRange"),
+            FaultKind::ProblemTooLarge => (30, "ProblemTooLarge"),
+        }
+    }
+
     /// The number that is printed behind an `F`.
     pub fn number(&self) -> u8
         ensures { result ≡ kind_number self.now }
     {
-        *self as u8 + 1
+        self.line().0
     }
 
     /// The name that is printed behind the number.
     pub fn name(&self) -> &'static str
         ensures { result.now ≡ kind_name self.now }
     {
-        match self {
-            FaultKind::BadText => "BadText",
-            FaultKind::BadChar => "BadChar",
-            FaultKind::OpenString => "OpenString",
-            FaultKind::BadIndent => "BadIndent",
-            FaultKind::WideNumber => "WideNumber",
-            FaultKind::Syntax => "Syntax",
-            FaultKind::TooDeep => "TooDeep",
-            FaultKind::FileMissing => "FileMissing",
-            FaultKind::FileTooLong => "FileTooLong",
-            FaultKind::TooManyFiles => "TooManyFiles",
-            FaultKind::NameUnknown => "NameUnknown",
-            FaultKind::NameTwice => "NameTwice",
-            FaultKind::SuperLoop => "SuperLoop",
-            FaultKind::NestLoop => "NestLoop",
-            FaultKind::NoSuchMember => "NoSuchMember",
-            FaultKind::NotSpecial => "NotSpecial",
-            FaultKind::TreeTooLarge => "TreeTooLarge",
-            FaultKind::WrongKind => "WrongKind",
-            FaultKind::CannotConnect => "CannotConnect",
-            FaultKind::NoHeader => "NoHeader",
-            FaultKind::ColumnTwice => "ColumnTwice",
-            FaultKind::BadRow => "BadRow",
-            FaultKind::BadCell => "BadCell",
-            FaultKind::PartTwice => "PartTwice",
-            FaultKind::TooManyRows => "TooManyRows",
-            FaultKind::UnitFault => "UnitFault",
-            FaultKind::Unvalued => "Unvalued",
-            FaultKind::DefinitionLoop => "DefinitionLoop",
-            FaultKind::EmptyRange => "EmptyRange",
-            FaultKind::ProblemTooLarge => "ProblemTooLarge",
-        }
+        self.line().1
     }
 }
 

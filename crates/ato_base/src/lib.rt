@@ -21,7 +21,7 @@ pub use keywords::{Keyword, Mark};
 pub use list::List;
 pub use memory::NoMemory;
 pub use name_table::{Name, NameTable};
-pub use names::{is_keyword, is_name};
+pub use names::{first_char, is_keyword, is_name};
 pub use nets::{Comp, Net, NetList, NetPin, PartRow};
 pub use places::{FileId, Place, Span};
 pub use stages::{Stages, one_fault_stands};

@@ -1,4 +1,4 @@
-ghost use Rattle.std.specs.Prelude.{◌≡◌, [], ◌∷◌, MatchOption};
+ghost use Rattle.std.specs.Prelude.{◌≡◌, ◌<◌, [], ◌∷◌, MatchOption, length};
 ghost use Rattle.unicode_ident.specs.Ident.{is_xid_continue};
 ghost use Rattle.std.specs.List.{list_all};
 ghost use Rattle.std.specs.Str.{chars};
@@ -36,11 +36,12 @@ fn starts_name(first: char) -> bool
     is_xid_start(first) | (first == '_')
 }
 
-/// The first character of a text, and what comes after it.
+/// The first character of a text, and what comes after it, which is shorter.
 #[tactic(auto, using(std::proofs::lemmas::Str::chars_past_char))]
-fn first_char(text: &str) -> Option<(char, &str)>
-    ensures { MatchOption result (chars text.now ≡ [])
+pub fn first_char(text: &str) -> Option<(char, &str)>
+    ensures cut { MatchOption result (chars text.now ≡ [])
         (λ cut. chars text.now ≡ cut.0 ∷ chars cut.1.now) }
+    ensures shorter { MatchOption result (length text.now ≡ 0) (λ cut. length cut.1.now < length text.now) }
 {
     let mut rest = text.chars();
     match rest.next() {

@@ -7,8 +7,8 @@ use Rattle.ato_base.specs.Joined.{same}
 use Rattle.ato_base.specs.declared.nets.Net.{Net}
 use Rattle.ato_base.specs.declared.nets.NetList.{NetList}
 use Rattle.ato_base.proofs.ClassLaws.{cases, first, later, nowhere, in_range, class_related, class_shared, class_once}
-use Rattle.ato_base.proofs.JoinedLaws.{joined_direct, joined_sym, joined_trans, joined_least}
-use Rattle.ato_first.specs.LeastEquivalence.{IsLeastEquivalence}
+use Rattle.ato_base.proofs.JoinedLaws.{joined_sym, joined_trans, joined_is_least}
+use Rattle.ato_base.specs.LeastEquivalence.{IsLeastEquivalence}
 use Rattle.ato_lexer.specs.declared.first_form.Point.TheVariants.{Pin}
 use Rattle.ato_lexer.specs.declared.first_form.Block.{Block}
 use Rattle.ato_first.specs.FirstNets.{net_pin, IsNet, IsNetList, StandsIn, SharesExactly}
@@ -156,10 +156,4 @@ module _ (block : Block) (value : List ℕ) (list : NetList) (is : IsNetList blo
 
 -- being joined is the least equivalence that holds the joins of the lines
 pub joined_by_lines : (block : Block) → IsLeastEquivalence (IsJoinedByLine block) (AreJoined block)
-joined_by_lines block = record {
-  self = λ p. same;
-  flip = λ p q. joined_sym (IsJoinedByLine block);
-  chain = λ p q r. joined_trans (IsJoinedByLine block);
-  holds = λ p q. joined_direct (IsJoinedByLine block);
-  least = λ other self flip chain holds p q. joined_least (IsJoinedByLine block) (λ a b. other a b ≡ true) self flip chain holds;
-}
+joined_by_lines block = joined_is_least (IsJoinedByLine block)

@@ -6,17 +6,13 @@ use Rattle.std.proofs.lemmas.List.{take_more, take_all}
 use Rattle.std.proofs.lemmas.List.Elements.{filter-append}
 use Rattle.ato_first.proofs.FirstNetLaws.{others, bytes_eq-flip, any-others}
 use Rattle.std.proofs.lemmas.Grind.{flat_map-append}
-use Rattle.ato_base.specs.NameTable.{with_name}
+use Rattle.ato_base.specs.NameTable.{with_name, with_names}
+use Rattle.ato_base.proofs.NameTableLaws.{with_names-append}
 use Rattle.ato_lexer.specs.FirstForm.{lined, line_text, lines_text}
 use Rattle.ato_lexer.specs.declared.first_form.Point.{Point}
 use Rattle.ato_lexer.specs.declared.first_form.Point.TheVariants.{Signal, Pin}
 use Rattle.ato_lexer.specs.declared.first_form.Line.{Line}
 use Rattle.ato_first.specs.FirstPoints.{distinct, signal_names, pin_labels, line_points, lines_points}
-use Rattle.ato_first.specs.FirstJoins.{with_names}
-
-with_names-append : (names xs ys : List (List ℕ)) → with_names names (xs ++ ys) ≡ with_names (with_names names xs) ys
-with_names-append names [] ys = refl
-with_names-append names (x ∷ xs) ys = with_names-append (with_name names x) xs ys
 
 signal_names-append : (xs ys : List Point) → signal_names (xs ++ ys) ≡ signal_names xs ++ signal_names ys
 signal_names-append [] ys = refl

@@ -1,17 +1,13 @@
 -- The points of a block by numbers: the signals in their order, and then the pins in theirs.
-use Rattle.std.specs.Prelude.{◌≡◌, ℕ, ◌+◌, List, [], ◌∷◌, length, fold}
+use Rattle.std.specs.Prelude.{◌≡◌, ℕ, ◌+◌, List, [], ◌∷◌, length}
 use Rattle.std.specs.List.{flat_map}
-use Rattle.ato_base.specs.NameTable.{with_name, number_of}
+use Rattle.ato_base.specs.NameTable.{with_names, number_of}
 use Rattle.ato_lexer.specs.declared.first_form.Point.{Point}
 use Rattle.ato_lexer.specs.declared.first_form.Point.TheVariants.{Signal, Pin}
 use Rattle.ato_lexer.specs.declared.first_form.Line.{Line}
-use Rattle.ato_lexer.specs.declared.first_form.Line.TheVariants.{Pass, Declaration, Join, Kind, Attribute, Assertion}
+use Rattle.ato_lexer.specs.declared.first_form.Line.TheVariants.{Join}
 use Rattle.ato_first.specs.FirstPoints.{signal_names, pin_labels, end_point}
 use Rattle.ato_first.specs.declared.first_points.Points.{Points}
-
--- the texts after more of them are mentioned
-abbrev pub with_names : List (List ℕ) → List (List ℕ) → List (List ℕ)
-with_names names texts = fold with_name names texts
 
 -- The points after more of them are declared.
 pub record Adds (old new : Points) (more : List Point) : Type 0 where
@@ -25,12 +21,8 @@ point_number points (Pin label) = length points.signals + number_of points.pins 
 
 -- the numbers that a line joins
 abbrev pub line_joins : Points → Line → List (ℕ × ℕ)
-line_joins points Pass = []
-line_joins points (Declaration point) = []
 line_joins points (Join left right) = (point_number points (end_point left), point_number points (end_point right)) ∷ []
-line_joins points (Kind text) = []
-line_joins points (Attribute name) = []
-line_joins points (Assertion asserted) = []
+line_joins points line = []
 
 -- the numbers that lines join, in their order
 abbrev pub lines_joins : Points → List Line → List (ℕ × ℕ)

@@ -4,5 +4,4 @@ pub mod FirstJoins
 pub mod FirstNets
 pub mod FirstParts
 pub mod FirstPoints
-pub mod LeastEquivalence
 pub mod ShownParts

@@ -1,6 +1,6 @@
 ghost use Rattle.std.specs.Prelude.{◌≡◌, ◌+◌, ◌<◌, ◌||◌, nat_lt, All, IfOk, length, map};
 ghost use Rattle.ato_first.specs.FirstPoints.{AreJoined, AreKnown, IsJoinedByLine, pins_of};
-ghost use Rattle.ato_first.specs.LeastEquivalence.{IsLeastEquivalence};
+ghost use Rattle.ato_base.specs.LeastEquivalence.{IsLeastEquivalence};
 ghost use Rattle.ato_first.specs.FirstGroups.{class_name, group_net, label_at};
 ghost use Rattle.ato_first.specs.FirstParts.{part_of, slot_count};
 ghost use Rattle.ato_first.specs.FirstNets.{comps_with, net_pin, IsNetList, SharesExactly};

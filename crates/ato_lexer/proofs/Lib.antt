@@ -11,5 +11,4 @@ pub mod FirstFormLaws
 pub mod PartLaws
 pub mod FormExamples
 pub mod Digits
-pub mod Numbers
 pub mod Reading

@@ -11,7 +11,8 @@ use Rattle.ato_base.specs.declared.tokens.Token.{Token}
 use Rattle.ato_base.specs.declared.faults.Refusal.{Refusal}
 use Rattle.ato_base.specs.declared.faults.Refusal.TheVariants as refusals
 use Rattle.ato_lexer.specs.FirstForm.{lined, end_text, line_text, lines_text, head_text, block_text, is_point, is_end, is_line, is_ascii_name, is_short_number, NoLine, NoHead, bad_line}
-use Rattle.ato_lexer.specs.FirstTokens.{Holds, Extends, point_names, end_names, line_names, point_tokens, end_tokens, words_tokens, line_tokens, lines_tokens, label_token, name_token, number_token, range_tokens, token, head_tokens, last_tokens, AreTokens, IsRefused, syntax_fault}
+use Rattle.ato_lexer.specs.FirstTokens.{point_names, end_names, line_names, point_tokens, end_tokens, words_tokens, line_tokens, lines_tokens, label_token, name_token, number_token, range_tokens, token, head_tokens, last_tokens, AreTokens, IsRefused, syntax_fault}
+use Rattle.ato_base.specs.NameTable.{IsHeld, Extends}
 use Rattle.ato_lexer.specs.Statements.{point_of, end_of, line_of, IsPointText, IsEndText, IsStatement, words_text, AreRead, IsWholeFront}
 use Rattle.ato_lexer.specs.declared.first_form.Point.{Point}
 use Rattle.ato_lexer.specs.declared.first_form.Point.TheVariants.{Signal, Pin}
@@ -29,7 +30,7 @@ use Rattle.ato_lexer.specs.declared.statements.EndText.{EndText}
 use Rattle.ato_lexer.specs.declared.statements.EndText.TheVariants as ends
 use Rattle.ato_lexer.specs.declared.statements.Statement.{Statement}
 use Rattle.ato_lexer.specs.declared.statements.Statement.TheVariants as statements
-use Rattle.ato_lexer.proofs.Numbers.{held_number, held_more}
+use Rattle.ato_base.proofs.NameTableLaws.{held_number, held_more}
 use Rattle.ato_lexer.proofs.FirstFormLemmas.{indented, no_next, text_more, are_more}
 use Rattle.ato_lexer.proofs.BadLineLemmas.{whole_file, bad_line_within}
 
@@ -55,19 +56,19 @@ statement_line (statements.Assertion a) h =
 
 -- A table that grows keeps the tokens of lines whose names it holds.
 
-label_more : (names more : List (List ℕ)) (file : FileId) (at : ℕ) (label : List ℕ) → All (Holds names) (point_names (Pin label)) → label_token (names ++ more) file at label ≡ label_token names file at label
+label_more : (names more : List (List ℕ)) (file : FileId) (at : ℕ) (label : List ℕ) → All (IsHeld names) (point_names (Pin label)) → label_token (names ++ more) file at label ≡ label_token names file at label
 label_more names more file at label h = by (is_ascii_name label) h
   where
-    by : (b : Bool) → All (Holds names) (if b then label ∷ [] else []) → (if b then name_token (names ++ more) file at label else number_token file at label) ≡ (if b then name_token names file at label else number_token file at label)
-    by true k = rw (held_number names more label (All-head (Holds names) label [] k)) refl
+    by : (b : Bool) → All (IsHeld names) (if b then label ∷ [] else []) → (if b then name_token (names ++ more) file at label else number_token file at label) ≡ (if b then name_token names file at label else number_token file at label)
+    by true k = rw (held_number names more label (All-head (IsHeld names) label [] k)) refl
     by false k = refl
 
-point_more : (names more : List (List ℕ)) (file : FileId) (at : ℕ) (point : Point) → All (Holds names) (point_names point) → point_tokens (names ++ more) file at point ≡ point_tokens names file at point
-point_more names more file at (Signal name) h = rw (held_number names more name (All-head (Holds names) name [] h)) refl
+point_more : (names more : List (List ℕ)) (file : FileId) (at : ℕ) (point : Point) → All (IsHeld names) (point_names point) → point_tokens (names ++ more) file at point ≡ point_tokens names file at point
+point_more names more file at (Signal name) h = rw (held_number names more name (All-head (IsHeld names) name [] h)) refl
 point_more names more file at (Pin label) h = ap (λ t. token file (kinds.Keyword words.Pin) at (at + 3) ∷ t ∷ []) (label_more names more file (at + 4) label h)
 
-end_more : (names more : List (List ℕ)) (file : FileId) (at : ℕ) (end : End) → All (Holds names) (end_names end) → end_tokens (names ++ more) file at end ≡ end_tokens names file at end
-end_more names more file at (Name name) h = rw (held_number names more name (All-head (Holds names) name [] h)) refl
+end_more : (names more : List (List ℕ)) (file : FileId) (at : ℕ) (end : End) → All (IsHeld names) (end_names end) → end_tokens (names ++ more) file at end ≡ end_tokens names file at end
+end_more names more file at (Name name) h = rw (held_number names more name (All-head (IsHeld names) name [] h)) refl
 end_more names more file at (Declared point) h = point_more names more file at point h
 
 All-front : (P : List ℕ → Type 0) (xs ys : List (List ℕ)) → All P (xs ++ ys) → All P xs
@@ -76,41 +77,41 @@ All-front P xs ys h = subst (All P) (take-append_seam xs ys) (All-take P (length
 All-back : (P : List ℕ → Type 0) (xs ys : List (List ℕ)) → All P (xs ++ ys) → All P ys
 All-back P xs ys h = subst (All P) (drop-append_seam xs ys) (All-drop P (length xs) (xs ++ ys) h)
 
-words_more : (names more : List (List ℕ)) (file : FileId) (at : ℕ) (line : Line) → All (Holds names) (line_names line) → words_tokens (names ++ more) file at line ≡ words_tokens names file at line
+words_more : (names more : List (List ℕ)) (file : FileId) (at : ℕ) (line : Line) → All (IsHeld names) (line_names line) → words_tokens (names ++ more) file at line ≡ words_tokens names file at line
 words_more names more file at Pass h = refl
 words_more names more file at (Declaration point) h = point_more names more file (at + 4) point h
 words_more names more file at (Join left right) h =
     let size : ℕ = length (end_text left) in
     let mark : Token = token file (kinds.Mark marks.Tilde) (at + 5 + size) (at + 6 + size) in
-    ap (λ ts. ts ++ mark ∷ end_tokens (names ++ more) file (at + 7 + size) right) (end_more names more file (at + 4) left (All-front (Holds names) (end_names left) (end_names right) h))
-    ∙ ap (λ ts. end_tokens names file (at + 4) left ++ mark ∷ ts) (end_more names more file (at + 7 + size) right (All-back (Holds names) (end_names left) (end_names right) h))
-words_more names more file at (Kind text) h = rw (held_number names more (codes "kind") (All-head (Holds names) (codes "kind") [] h)) refl
+    ap (λ ts. ts ++ mark ∷ end_tokens (names ++ more) file (at + 7 + size) right) (end_more names more file (at + 4) left (All-front (IsHeld names) (end_names left) (end_names right) h))
+    ∙ ap (λ ts. end_tokens names file (at + 4) left ++ mark ∷ ts) (end_more names more file (at + 7 + size) right (All-back (IsHeld names) (end_names left) (end_names right) h))
+words_more names more file at (Kind text) h = rw (held_number names more (codes "kind") (All-head (IsHeld names) (codes "kind") [] h)) refl
 words_more names more file at (Attribute name) h =
-    let dimensionless : Holds names (codes "dimensionless") = All-head (Holds names) (codes "dimensionless") [] (All-tail (Holds names) name (codes "dimensionless" ∷ []) h) in
-    rw (held_number names more name (All-head (Holds names) name (codes "dimensionless" ∷ []) h)) (rw (held_number names more (codes "dimensionless") dimensionless) refl)
-words_more names more file at (forms.Assertion a) h = rw (held_number names more a.name (All-head (Holds names) a.name [] h)) refl
+    let dimensionless : IsHeld names (codes "dimensionless") = All-head (IsHeld names) (codes "dimensionless") [] (All-tail (IsHeld names) name (codes "dimensionless" ∷ []) h) in
+    rw (held_number names more name (All-head (IsHeld names) name (codes "dimensionless" ∷ []) h)) (rw (held_number names more (codes "dimensionless") dimensionless) refl)
+words_more names more file at (forms.Assertion a) h = rw (held_number names more a.name (All-head (IsHeld names) a.name [] h)) refl
 
-line_more : (names more : List (List ℕ)) (file : FileId) (at : ℕ) (line : Line) → All (Holds names) (line_names line) → line_tokens (names ++ more) file at line ≡ line_tokens names file at line
+line_more : (names more : List (List ℕ)) (file : FileId) (at : ℕ) (line : Line) → All (IsHeld names) (line_names line) → line_tokens (names ++ more) file at line ≡ line_tokens names file at line
 line_more names more file at line h =
     ap (λ ts. ts ++ token file kinds.Newline (at + length (line_text line)) (at + length (line_text line)) ∷ []) (words_more names more file at line h)
 
-lines_more : (names more : List (List ℕ)) (file : FileId) (at : ℕ) (lines : List Line) → All (λ line. All (Holds names) (line_names line)) lines → lines_tokens (names ++ more) file at lines ≡ lines_tokens names file at lines
+lines_more : (names more : List (List ℕ)) (file : FileId) (at : ℕ) (lines : List Line) → All (λ line. All (IsHeld names) (line_names line)) lines → lines_tokens (names ++ more) file at lines ≡ lines_tokens names file at lines
 lines_more names more file at [] h = refl
 lines_more names more file at (l ∷ ls) h =
-    let first = line_more names more file at l (All-head (λ line. All (Holds names) (line_names line)) l ls h) in
-    let others = lines_more names more file (at + length (lined (line_text l))) ls (All-tail (λ line. All (Holds names) (line_names line)) l ls h) in
+    let first = line_more names more file at l (All-head (λ line. All (IsHeld names) (line_names line)) l ls h) in
+    let others = lines_more names more file (at + length (lined (line_text l))) ls (All-tail (λ line. All (IsHeld names) (line_names line)) l ls h) in
     ap (λ x. x ++ lines_tokens (names ++ more) file (at + length (lined (line_text l))) ls) first ∙ ap (λ x. line_tokens names file at l ++ x) others
 
-pub head_more : (names more : List (List ℕ)) (file : FileId) (name : List ℕ) → Holds names name → head_tokens (names ++ more) file name ≡ head_tokens names file name
+pub head_more : (names more : List (List ℕ)) (file : FileId) (name : List ℕ) → IsHeld names name → head_tokens (names ++ more) file name ≡ head_tokens names file name
 head_more names more file name h = rw (held_number names more name h) refl
 
-all_more : (names more ts : List (List ℕ)) → All (Holds names) ts → All (Holds (names ++ more)) ts
-all_more names more ts h = All-weaker (Holds names) (Holds (names ++ more)) (held_more names more) ts h
+all_more : (names more ts : List (List ℕ)) → All (IsHeld names) ts → All (IsHeld (names ++ more)) ts
+all_more names more ts h = All-weaker (IsHeld names) (IsHeld (names ++ more)) (held_more names more) ts h
 
-all_grown : (names new ts : List (List ℕ)) → Extends names new → All (Holds names) ts → All (Holds new) ts
-all_grown names new ts (extra, grown) h = subst (λ table. All (Holds table) ts) (sym grown) (all_more names extra ts h)
+all_grown : (names new ts : List (List ℕ)) → Extends names new → All (IsHeld names) ts → All (IsHeld new) ts
+all_grown names new ts (extra, grown) h = subst (λ table. All (IsHeld table) ts) (sym grown) (all_more names extra ts h)
 
-end_grown : (names new : List (List ℕ)) (file : FileId) (at : ℕ) (end : End) → Extends names new → All (Holds names) (end_names end) → end_tokens names file at end ≡ end_tokens new file at end
+end_grown : (names new : List (List ℕ)) (file : FileId) (at : ℕ) (end : End) → Extends names new → All (IsHeld names) (end_names end) → end_tokens names file at end ≡ end_tokens new file at end
 end_grown names new file at end (extra, grown) h = sym (ap (λ table. end_tokens table file at end) grown ∙ end_more names extra file at end h)
 
 -- The tokens of a join, whose ends are put one after the other into a table that grows.
@@ -122,7 +123,7 @@ in_order : (before one mark two : List Token) → ((before ++ one) ++ mark) ++ t
 in_order before one mark two = simp append_assoc
 
 pub join_pushed : (file : FileId) (at stop : ℕ) (left right : End) (names new : List (List ℕ)) (before one two after : List Token)
-    → stop ≡ at + 4 + length (end_text left) → Extends names new → All (Holds names) (end_names left)
+    → stop ≡ at + 4 + length (end_text left) → Extends names new → All (IsHeld names) (end_names left)
     → one ≡ before ++ end_tokens names file (at + 4) left → two ≡ one ++ token file (kinds.Mark marks.Tilde) (stop + 1) (stop + 2) ∷ []
     → after ≡ two ++ end_tokens new file (stop + 3) right → after ≡ before ++ words_tokens new file at (Join left right)
 join_pushed file at stop left right names new before one two after place grown held first second third =
@@ -138,8 +139,8 @@ join_pushed file at stop left right names new before one two after place grown h
     ∙ ap (λ n. ((before ++ end_tokens new file (at + 4) left) ++ mark (at + 5 + size) (at + 6 + size)) ++ end_tokens new file n right) places.2
     ∙ in_order before (end_tokens new file (at + 4) left) (mark (at + 5 + size) (at + 6 + size)) (end_tokens new file (at + 7 + size) right)
 
-pub join_held : (left right : End) (names new : List (List ℕ)) → Extends names new → All (Holds names) (end_names left) → All (Holds new) (end_names right) → All (Holds new) (line_names (Join left right))
-join_held left right names new grown one two = All-append (Holds new) (end_names left) (end_names right) (all_grown names new (end_names left) grown one) two
+pub join_held : (left right : End) (names new : List (List ℕ)) → Extends names new → All (IsHeld names) (end_names left) → All (IsHeld new) (end_names right) → All (IsHeld new) (line_names (Join left right))
+join_held left right names new grown one two = All-append (IsHeld new) (end_names left) (end_names right) (all_grown names new (end_names left) grown one) two
 
 -- The same of an attribute, whose table grows between its name and the word behind the colon.
 
@@ -147,7 +148,7 @@ attribute_place : (at size stop : ℕ) → stop ≡ at + 4 + size → (stop + 1 
 attribute_place at size stop e = (omega arith, omega arith)
 
 pub attribute_pushed : (file : FileId) (at stop : ℕ) (name : List ℕ) (names new : List (List ℕ)) (before one two after : List Token)
-    → stop ≡ at + 4 + length name → Extends names new → Holds names name
+    → stop ≡ at + 4 + length name → Extends names new → IsHeld names name
     → one ≡ before ++ name_token names file (at + 4) name ∷ [] → two ≡ one ++ token file (kinds.Mark marks.Colon) stop (stop + 1) ∷ []
     → after ≡ two ++ name_token new file (stop + 2) (codes "dimensionless") ∷ [] → after ≡ before ++ words_tokens new file at (Attribute name)
 attribute_pushed file at stop name names new before one two after place (extra, grown) held first second third =
@@ -164,9 +165,9 @@ attribute_pushed file at stop name names new before one two after place (extra, 
     ∙ ap (λ c. tokens (name_token new file (at + 4) name) (at + 4 + size) (at + 5 + size) c) places.1
     ∙ in_order before (name_token new file (at + 4) name ∷ []) (token file (kinds.Mark marks.Colon) (at + 4 + size) (at + 5 + size) ∷ []) (name_token new file (at + 6 + size) (codes "dimensionless") ∷ [])
 
-pub attribute_held : (name : List ℕ) (names new : List (List ℕ)) → Extends names new → Holds names name → Holds new (codes "dimensionless") → All (Holds new) (line_names (Attribute name))
+pub attribute_held : (name : List ℕ) (names new : List (List ℕ)) → Extends names new → IsHeld names name → IsHeld new (codes "dimensionless") → All (IsHeld new) (line_names (Attribute name))
 attribute_held name names new (extra, grown) one two =
-    All-cons (Holds new) name (codes "dimensionless" ∷ []) (subst (λ table. Holds table name) (sym grown) (held_more names extra name one)) (All-cons (Holds new) (codes "dimensionless") [] two (All-nil (Holds new)))
+    All-cons (IsHeld new) name (codes "dimensionless" ∷ []) (subst (λ table. IsHeld table name) (sym grown) (held_more names extra name one)) (All-cons (IsHeld new) (codes "dimensionless") [] two (All-nil (IsHeld new)))
 
 -- The tokens of an assertion.
 
@@ -211,14 +212,14 @@ rest_place at bytes rest lines e = omega (arith, ap length e, length-append (lin
 
 pub read_none : (file : FileId) (at : ℕ) (bytes rest : List ℕ) (names : List (List ℕ)) (tokens : List Token) → rest ≡ bytes → AreRead file at bytes rest names tokens tokens []
 read_none file at bytes rest names tokens e =
-    record { text = sym e; are_lines = refl; tokens_are = sym (append-nil tokens); held = All-nil (λ line. All (Holds names) (line_names line)) }
+    record { text = sym e; are_lines = refl; tokens_are = sym (append-nil tokens); held = All-nil (λ line. All (IsHeld names) (line_names line)) }
 
 pub read_more : (file : FileId) (at : ℕ) (bytes rest more : List ℕ) (names new : List (List ℕ)) (before tokens after : List Token) (lines : List Line) (line : Line)
     → AreRead file at bytes rest names before tokens lines → rest ≡ lined (line_text line) ++ more → is_line line ≡ true → Extends names new
-    → after ≡ tokens ++ line_tokens new file (at + (length bytes - length rest)) line → All (Holds new) (line_names line)
+    → after ≡ tokens ++ line_tokens new file (at + (length bytes - length rest)) line → All (IsHeld new) (line_names line)
     → AreRead file at bytes more new before after (lines ++ line ∷ [])
 read_more file at bytes rest more names new before tokens after lines line read is ok (extra, grown) pushed held =
-    let all : List (List ℕ) → Line → Type 0 = λ table line. All (Holds table) (line_names line) in
+    let all : List (List ℕ) → Line → Type 0 = λ table line. All (IsHeld table) (line_names line) in
     let kept : All (all new) lines = subst (λ table. All (all table) lines) (sym grown) (All-weaker (all names) (all (names ++ extra)) (λ line h. all_more names extra (line_names line) h) lines read.held) in
     let old_tokens : lines_tokens names file at lines ≡ lines_tokens new file at lines = sym (ap (λ table. lines_tokens table file at lines) grown ∙ lines_more names extra file at lines read.held) in
     record {
@@ -238,7 +239,7 @@ front_place name bytes = simp length-append (omega arith)
 
 pub file_read : (file : FileId) (at : ℕ) (name bytes rest : List ℕ) (found : Found) (names new : List (List ℕ)) (none front tokens all : List Token) (lines : List Line)
     → is_ascii_name name ≡ true → at ≡ 12 + length name
-    → none ≡ [] → front ≡ none ++ head_tokens names file name → Holds names name → Extends names new
+    → none ≡ [] → front ≡ none ++ head_tokens names file name → IsHeld names name → Extends names new
     → AreRead file at bytes rest new front tokens lines → IsWholeFront at found rest lines → bad_line (record { name = name; lines = lines }) rest ≡ None
     → all ≡ tokens ++ last_tokens file (at + length bytes)
     → AreTokens (lined (head_text name) ++ bytes) file new all (Some (record { name = name; lines = lines }))
@@ -256,7 +257,7 @@ file_read file at name bytes rest found names new none front tokens all lines ok
           ∙ ap (λ t. t ++ (lines_tokens new file at lines ++ last_tokens file (at + length bytes))) head_now
           ∙ ap (λ n. head_tokens new file name ++ (lines_tokens new file n lines ++ last_tokens file (at + length bytes))) place
           ∙ ap (λ n. head_tokens new file name ++ (lines_tokens new file (12 + length name) lines ++ last_tokens file n)) size;
-      held = (subst (λ table. Holds table name) (sym grown) (held_more names extra name held), read.held);
+      held = (subst (λ table. IsHeld table name) (sym grown) (held_more names extra name held), read.held);
     }
 
 pub empty_text : (bytes : List ℕ) → length bytes ≡ 0 → bytes ≡ []

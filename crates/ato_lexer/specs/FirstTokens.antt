@@ -1,8 +1,6 @@
 -- The tokens of a file of the first form, with their places. It goes once whole files are read.
 use Rattle.std.specs.Prelude.{◌≡◌, ℕ, ◌+◌, ◌*◌, ◌-◌, true, nat_le, if◌then◌else◌, List, [], ◌∷◌, ◌++◌, length, codes, fold, Option, Some, None, All}
-use Rattle.std.specs.List.{list_any}
-use Rattle.std.specs.Str.{bytes_eq}
-use Rattle.ato_base.specs.NameTable.{number_of}
+use Rattle.ato_base.specs.NameTable.{number_of, IsHeld}
 use Rattle.ato_base.specs.declared.places.FileId.{FileId}
 use Rattle.ato_base.specs.declared.places.Place.TheVariants as places
 use Rattle.ato_base.specs.declared.tokens.Token.{Token}
@@ -147,14 +145,10 @@ line_names (Kind text) = codes "kind" ∷ []
 line_names (Attribute name) = name ∷ codes "dimensionless" ∷ []
 line_names (lines.Assertion a) = a.name ∷ []
 
--- The table holds the text.
-abbrev pub Holds : List (List ℕ) → List ℕ → Type 0
-Holds names text = list_any (bytes_eq text) names ≡ true
-
 -- The table holds every name of the file.
 abbrev pub HoldsNames : List (List ℕ) → Option Block → Type 0
 HoldsNames names None = Unit {0}
-HoldsNames names (Some block) = Holds names block.name × All (λ line. All (Holds names) (line_names line)) block.lines
+HoldsNames names (Some block) = IsHeld names block.name × All (λ line. All (IsHeld names) (line_names line)) block.lines
 
 -- The tokens are those of the file that the bytes are, and the table holds its names.
 pub record AreTokens (bytes : List ℕ) (file : FileId) (names : List (List ℕ)) (tokens : List Token) (block : Option Block) : Type 0 where
@@ -170,7 +164,3 @@ syntax_fault file at = record { kind = faults.Syntax; at = places.Source (record
 abbrev pub IsRefused : List ℕ → FileId → Refusal → Type 0
 IsRefused bytes file refusals.NoMemory = Unit {0}
 IsRefused bytes file (refusals.Fault f) = (at : ℕ) × IsBad bytes at × (f ≡ syntax_fault file at)
-
--- The table keeps the place of each name, and may hold more.
-abbrev pub Extends : List (List ℕ) → List (List ℕ) → Type 0
-Extends old new = (more : List (List ℕ)) × (new ≡ old ++ more)

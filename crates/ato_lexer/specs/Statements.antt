@@ -6,7 +6,8 @@ use Rattle.ato_base.specs.declared.tokens.Token.{Token}
 use Rattle.ato_lexer.specs.FirstForm.{is_ascii_name, is_short_number, is_kind_text, is_attribute_name, is_line, point_text, end_text, lines_text, NoNext}
 use Rattle.ato_lexer.specs.PartLines.{before_attribute, kind_of, attribute_of, AreOnce}
 use Rattle.ato_lexer.specs.PartLines as parts
-use Rattle.ato_lexer.specs.FirstTokens.{Holds, line_names, lines_tokens}
+use Rattle.ato_lexer.specs.FirstTokens.{line_names, lines_tokens}
+use Rattle.ato_base.specs.NameTable.{IsHeld}
 use Rattle.ato_lexer.specs.declared.first_form.Point.{Point}
 use Rattle.ato_lexer.specs.declared.first_form.Point.TheVariants as points
 use Rattle.ato_lexer.specs.declared.first_form.End.{End}
@@ -103,7 +104,7 @@ pub record AreRead (file : FileId) (at : ℕ) (bytes rest : List ℕ) (names : L
   pub text : bytes ≡ lines_text lines ++ rest
   pub are_lines : list_all is_line lines ≡ true
   pub tokens_are : tokens ≡ before ++ lines_tokens names file at lines
-  pub held : All (λ line. All (Holds names) (line_names line)) lines
+  pub held : All (λ line. All (IsHeld names) (line_names line)) lines
 
 -- They are all lines that follow one another in the form, and what was found among them is right.
 pub record IsWholeFront (place : ℕ) (all : Found) (rest : List ℕ) (lines : List Line) : Type 0 where

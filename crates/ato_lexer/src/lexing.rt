@@ -2,7 +2,8 @@ ghost use Rattle.std.specs.Prelude.{◌≡◌, ◌++◌, ◌+◌, ◌<◌, ◌^�
 ghost use Rattle.ato_lexer.specs.declared.first_form.Block.{Block};
 ghost use Rattle.ato_lexer.specs.declared.first_form.Line.{Line};
 ghost use Rattle.ato_lexer.specs.FirstForm.{is_ascii_name, head_text, lined};
-ghost use Rattle.ato_lexer.specs.FirstTokens.{AreTokens, IsRefused, Extends, syntax_fault};
+ghost use Rattle.ato_lexer.specs.FirstTokens.{AreTokens, IsRefused, syntax_fault};
+ghost use Rattle.ato_base.specs.NameTable.{Extends};
 ghost use Rattle.ato_lexer.specs.Statements.{AreRead, IsWholeFront};
 
 use crate::fronts::Front;

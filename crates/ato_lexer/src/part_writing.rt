@@ -1,6 +1,7 @@
 ghost use Rattle.std.specs.Prelude.{◌≡◌, ◌++◌, ◌+◌, ◌<◌, ◌^◌, [], ◌∷◌, length, OnOk, IfOk, All, true};
 ghost use Rattle.ato_lexer.specs.FirstForm.{line_text, is_short_number};
-ghost use Rattle.ato_lexer.specs.FirstTokens.{quoted_token, range_tokens, words_tokens, line_names, Holds, Extends};
+ghost use Rattle.ato_lexer.specs.FirstTokens.{quoted_token, range_tokens, words_tokens, line_names};
+ghost use Rattle.ato_base.specs.NameTable.{IsHeld, Extends};
 ghost use Rattle.ato_lexer.specs.Statements.{assertion_of, IsAssertionText};
 ghost use Rattle.ato_lexer.specs.declared.first_form.Line.{Line};
 
@@ -37,7 +38,7 @@ pub(crate) fn push_kind(
     requires { at + length (line_text (Line.Kind text.now)) < 2 ^ 32 }
     ensures stop { IfOk result (λ stop. stop ≡ at + length (line_text (Line.Kind text.now))) }
     ensures pushed { OnOk result (tokens.new ≡ tokens.old ++ words_tokens names.new file at (Line.Kind text.now)) }
-    ensures held { OnOk result (All (Holds names.new) (line_names (Line.Kind text.now))) }
+    ensures held { OnOk result (All (IsHeld names.new) (line_names (Line.Kind text.now))) }
     ensures names { Extends names.old names.new }
 {
     push_name(tokens, names, file, at + 4, "kind")?;
@@ -57,7 +58,7 @@ pub(crate) fn push_attribute(
     requires { at + length (line_text (Line.Attribute name.now)) < 2 ^ 32 }
     ensures stop { IfOk result (λ stop. stop ≡ at + length (line_text (Line.Attribute name.now))) }
     ensures pushed { OnOk result (tokens.new ≡ tokens.old ++ words_tokens names.new file at (Line.Attribute name.now)) }
-    ensures held { OnOk result (All (Holds names.new) (line_names (Line.Attribute name.now))) }
+    ensures held { OnOk result (All (IsHeld names.new) (line_names (Line.Attribute name.now))) }
     ensures names { Extends names.old names.new }
 {
     let stop = push_name(tokens, names, file, at + 4, name)?;
@@ -96,7 +97,7 @@ pub(crate) fn push_assertion(
     requires assertion { IsAssertionText assertion }
     ensures stop { IfOk result (λ stop. stop ≡ at + length (line_text (Line.Assertion (assertion_of assertion.entry)))) }
     ensures pushed { OnOk result (tokens.new ≡ tokens.old ++ words_tokens names.new file at (Line.Assertion (assertion_of assertion.entry))) }
-    ensures held { OnOk result (All (Holds names.new) (line_names (Line.Assertion (assertion_of assertion.entry)))) }
+    ensures held { OnOk result (All (IsHeld names.new) (line_names (Line.Assertion (assertion_of assertion.entry)))) }
     ensures names { Extends names.old names.new }
 {
     push_keyword(tokens, file, Keyword::Assert, at + 4, at + 10)?;

@@ -1,7 +1,8 @@
 ghost use Rattle.std.specs.Prelude.{◌≡◌, ◌++◌, ◌+◌, ◌<◌, ◌^◌, [], ◌∷◌, length, OnOk, IfOk, All, false, true};
 ghost use Rattle.std.specs.List.{list_all};
 ghost use Rattle.ato_lexer.specs.FirstForm.{is_digit, point_text, end_text, line_text, is_ascii_name, is_short_number};
-ghost use Rattle.ato_lexer.specs.FirstTokens.{token, small_value, name_token, number_token, point_tokens, end_tokens, words_tokens, line_tokens, head_tokens, last_tokens, point_names, end_names, line_names, Holds, Extends};
+ghost use Rattle.ato_lexer.specs.FirstTokens.{token, small_value, name_token, number_token, point_tokens, end_tokens, words_tokens, line_tokens, head_tokens, last_tokens, point_names, end_names, line_names};
+ghost use Rattle.ato_base.specs.NameTable.{IsHeld, Extends};
 ghost use Rattle.ato_lexer.specs.declared.first_form.Line.{Line};
 ghost use Rattle.ato_lexer.specs.declared.first_form.Point.{Point};
 ghost use Rattle.ato_lexer.specs.Statements.{point_of, end_of, line_of, IsPointText, IsEndText, IsStatement};
@@ -51,7 +52,7 @@ pub(crate) fn push_name(
     requires { at + length name.now < 2 ^ 32 }
     ensures stop { IfOk result (λ stop. stop ≡ at + length name.now) }
     ensures pushed { OnOk result (tokens.new ≡ tokens.old ++ name_token names.new file at name.now ∷ []) }
-    ensures held { OnOk result (Holds names.new name.now) }
+    ensures held { OnOk result (IsHeld names.new name.now) }
     ensures names { Extends names.old names.new }
 {
     let number = names.intern(name)?;
@@ -142,7 +143,7 @@ fn push_signal(
     requires { at + length (point_text (Point.Signal name.now)) < 2 ^ 32 }
     ensures stop { IfOk result (λ stop. stop ≡ at + length (point_text (Point.Signal name.now))) }
     ensures pushed { OnOk result (tokens.new ≡ tokens.old ++ point_tokens names.new file at (Point.Signal name.now)) }
-    ensures held { OnOk result (Holds names.new name.now) }
+    ensures held { OnOk result (IsHeld names.new name.now) }
     ensures names { Extends names.old names.new }
 {
     push_keyword(tokens, file, Keyword::Signal, at, at + 6)?;
@@ -160,7 +161,7 @@ fn push_named_pin(
     requires label { is_ascii_name label.now ≡ true }
     ensures stop { IfOk result (λ stop. stop ≡ at + length (point_text (Point.Pin label.now))) }
     ensures pushed { OnOk result (tokens.new ≡ tokens.old ++ point_tokens names.new file at (Point.Pin label.now)) }
-    ensures held { OnOk result (Holds names.new label.now) }
+    ensures held { OnOk result (IsHeld names.new label.now) }
     ensures names { Extends names.old names.new }
 {
     push_keyword(tokens, file, Keyword::Pin, at, at + 3)?;
@@ -196,7 +197,7 @@ fn push_point(
     requires point { IsPointText point }
     ensures stop { IfOk result (λ stop. stop ≡ at + length (point_text (point_of point.entry))) }
     ensures pushed { OnOk result (tokens.new ≡ tokens.old ++ point_tokens names.new file at (point_of point.entry)) }
-    ensures held { OnOk result (All (Holds names.new) (point_names (point_of point.entry))) }
+    ensures held { OnOk result (All (IsHeld names.new) (point_names (point_of point.entry))) }
     ensures names { Extends names.old names.new }
 {
     match point {
@@ -218,7 +219,7 @@ fn push_end(
     requires end { IsEndText end }
     ensures stop { IfOk result (λ stop. stop ≡ at + length (end_text (end_of end.entry))) }
     ensures pushed { OnOk result (tokens.new ≡ tokens.old ++ end_tokens names.new file at (end_of end.entry)) }
-    ensures held { OnOk result (All (Holds names.new) (end_names (end_of end.entry))) }
+    ensures held { OnOk result (All (IsHeld names.new) (end_names (end_of end.entry))) }
     ensures names { Extends names.old names.new }
 {
     match end {
@@ -249,7 +250,7 @@ fn push_join(
     requires right { IsEndText right }
     ensures stop { IfOk result (λ stop. stop ≡ at + length (line_text (Line.Join (end_of left.entry) (end_of right.entry)))) }
     ensures pushed { OnOk result (tokens.new ≡ tokens.old ++ words_tokens names.new file at (Line.Join (end_of left.entry) (end_of right.entry))) }
-    ensures held { OnOk result (All (Holds names.new) (line_names (Line.Join (end_of left.entry) (end_of right.entry)))) }
+    ensures held { OnOk result (All (IsHeld names.new) (line_names (Line.Join (end_of left.entry) (end_of right.entry)))) }
     ensures names { Extends names.old names.new }
 {
     let stop = push_end(tokens, names, file, at + 4, left)?;
@@ -270,7 +271,7 @@ fn push_words(
     requires statement { IsStatement statement }
     ensures stop { IfOk result (λ stop. stop ≡ at + length (line_text (line_of statement.entry))) }
     ensures pushed { OnOk result (tokens.new ≡ tokens.old ++ words_tokens names.new file at (line_of statement.entry)) }
-    ensures held { OnOk result (All (Holds names.new) (line_names (line_of statement.entry))) }
+    ensures held { OnOk result (All (IsHeld names.new) (line_names (line_of statement.entry))) }
     ensures names { Extends names.old names.new }
 {
     match statement {
@@ -294,7 +295,7 @@ pub(crate) fn push_statement(
     requires size { at + length (line_text (line_of statement)) < 2 ^ 32 }
     requires statement { IsStatement statement }
     ensures pushed { OnOk result (tokens.new ≡ tokens.old ++ line_tokens names.new file at (line_of statement.entry)) }
-    ensures held { OnOk result (All (Holds names.new) (line_names (line_of statement.entry))) }
+    ensures held { OnOk result (All (IsHeld names.new) (line_names (line_of statement.entry))) }
     ensures names { Extends names.old names.new }
 {
     let stop = push_words(tokens, names, file, at, statement)?;
@@ -310,7 +311,7 @@ pub(crate) fn push_head(
 ) -> Result<(), NoMemory>
     requires { 16 + length name.now < 2 ^ 32 }
     ensures pushed { OnOk result (tokens.new ≡ tokens.old ++ head_tokens names.new file name.now) }
-    ensures held { OnOk result (Holds names.new name.now) }
+    ensures held { OnOk result (IsHeld names.new name.now) }
     ensures names { Extends names.old names.new }
 {
     let size = name.len();

@@ -1,6 +1,6 @@
 use Rattle.std.proofs.Common.{◌≡◌, [], take}
 use Rattle.ato_first.specs.FirstPoints.{signal_names, pin_labels, lines_points}
-use Rattle.ato_first.specs.FirstJoins.{with_names}
+use Rattle.ato_base.specs.NameTable.{with_names}
 use Rattle.ato_first.proofs.first_points.points_of.Given as goal
 
 abbrev pub invariant-loop-line : goal.invariant-loop-line

@@ -1,6 +1,6 @@
 use Rattle.std.proofs.Common.{◌∷◌, [], ◌++◌, sym, arith, append-nil}
 use Rattle.ato_lexer.specs.Statements.{line_of}
-use Rattle.ato_lexer.proofs.Numbers.{extends_more}
+use Rattle.ato_base.proofs.NameTableLaws.{extends_more}
 use Rattle.ato_lexer.proofs.Reading.{rest_place, read_none, read_more, statement_line}
 use Rattle.ato_lexer.proofs.lexing.push_lines.Goals as goal
 

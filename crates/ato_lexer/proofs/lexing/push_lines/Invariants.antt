@@ -1,5 +1,5 @@
 use Rattle.std.proofs.Common.{List, length}
-use Rattle.ato_lexer.specs.FirstTokens.{Extends}
+use Rattle.ato_base.specs.NameTable.{Extends}
 use Rattle.ato_lexer.specs.PartLines.{AreOnce}
 use Rattle.ato_lexer.specs.Statements.{AreRead, IsFound}
 use Rattle.ato_lexer.specs.declared.first_form.Line.{Line}

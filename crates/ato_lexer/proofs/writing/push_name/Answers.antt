@@ -1,4 +1,4 @@
-use Rattle.ato_lexer.proofs.Numbers.{number_after, held_after}
+use Rattle.ato_base.proofs.NameTableLaws.{number_after, held_after}
 use Rattle.std.proofs.Common.{arith}
 use Rattle.ato_lexer.proofs.writing.push_name.Goals as goal
 

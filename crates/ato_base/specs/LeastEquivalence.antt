@@ -2,7 +2,7 @@
 use Rattle.std.specs.Prelude.{◌≡◌, Bool, true}
 
 -- The relation E is an equivalence that holds D, and every equivalence that holds D holds E. A contract speaks of the
--- equivalences that are decided; ato_base/proofs/JoinedLaws.antt has the law for all of them.
+-- equivalences that are decided; proofs/JoinedLaws.antt has the law for all of them.
 pub record IsLeastEquivalence {P : Type 0} (D E : P → P → Type 0) : Type 0 where
   pub self : (p : P) → E p p
   pub flip : (p q : P) → E p q → E q p
