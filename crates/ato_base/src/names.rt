@@ -1,33 +1,48 @@
 ghost use Rattle.std.specs.Prelude.{◌≡◌, ◌<◌, [], ◌∷◌, MatchOption, length};
 ghost use Rattle.unicode_ident.specs.Ident.{is_xid_continue};
-ghost use Rattle.std.specs.List.{list_all};
-ghost use Rattle.std.specs.Str.{chars};
-ghost use Rattle.ato_base.specs.Keywords.{is_keyword};
+ghost use Rattle.std.specs.List.{list_all, list_any};
+ghost use Rattle.std.specs.Str.{chars, bytes_eq};
+ghost use Rattle.ato_base.specs.Keywords.{is_keyword, keyword_text};
 ghost use Rattle.ato_base.specs.Names.{starts_name, are_name_chars, is_name};
 
+use crate::Keyword;
 use unicode_ident::{is_xid_continue, is_xid_start};
+
+/// The keywords.
+const KEYWORDS: &[Keyword] = &[
+    Keyword::Module,
+    Keyword::Component,
+    Keyword::Interface,
+    Keyword::From,
+    Keyword::Import,
+    Keyword::New,
+    Keyword::Signal,
+    Keyword::Pin,
+    Keyword::Assert,
+    Keyword::Within,
+    Keyword::Is,
+    Keyword::To,
+    Keyword::Pass,
+    Keyword::For,
+    Keyword::In,
+    Keyword::True,
+    Keyword::False,
+];
+
+/// Whether a text is one of some keywords.
+fn is_among(text: &[u8], keywords: &[Keyword]) -> bool
+    ensures { result ≡ list_any (λ keyword. bytes_eq text.now (keyword_text keyword)) keywords.now }
+{
+    keywords
+        .iter()
+        .any(|keyword| text == keyword.spelling().as_bytes())
+}
 
 /// Whether a text is a keyword.
 pub fn is_keyword(text: &[u8]) -> bool
     ensures { result ≡ is_keyword text.now }
 {
-    text == b"module".as_slice()
-        || text == b"component".as_slice()
-        || text == b"interface".as_slice()
-        || text == b"from".as_slice()
-        || text == b"import".as_slice()
-        || text == b"new".as_slice()
-        || text == b"signal".as_slice()
-        || text == b"pin".as_slice()
-        || text == b"assert".as_slice()
-        || text == b"within".as_slice()
-        || text == b"is".as_slice()
-        || text == b"to".as_slice()
-        || text == b"pass".as_slice()
-        || text == b"for".as_slice()
-        || text == b"in".as_slice()
-        || text == b"True".as_slice()
-        || text == b"False".as_slice()
+    is_among(text, KEYWORDS)
 }
 
 fn starts_name(first: char) -> bool
