@@ -17,10 +17,11 @@ use Rattle.ato_first.specs.FirstPoints.{signals_of, pins_of, AreJoined, AreKnown
 use Rattle.ato_first.specs.FirstJoins.{point_number, lines_joins}
 use Rattle.ato_first.specs.FirstNets.{net_pin, IsNetName, by_signal, by_pin, IsNet, is_comp, comps_with, IsNetList}
 use Rattle.ato_first.specs.FirstParts.{Part, part_of, slot_count}
-use Rattle.ato_first.specs.FirstGroups.{SameClass, numbers_below, label_at, class_name, group_net}
+use Rattle.ato_nets.specs.Groups.{SameClass, numbers_below}
+use Rattle.ato_first.specs.FirstGroups.{label_at, class_name, group_net}
 use Rattle.ato_first.specs.declared.first_points.Points.{Points}
 use Rattle.ato_nets.proofs.ClassNumberLaws.{joined_same_class, same_class_joined}
-use Rattle.ato_first.proofs.FirstGroupLemmas.{below}
+use Rattle.ato_nets.proofs.GroupLemmas.{below}
 use Rattle.ato_first.proofs.FirstNumberLemmas.{join_within, the_points, point_count, point_at, at_signal, at_pin, signal_number, pin_number, joined_points, joined_numbers}
 
 module _ (block : Block) (known : AreKnown block) (of : List ℕ) (are : AreClassNumbers (point_count block) (lines_joins (the_points block) block.lines) of) where

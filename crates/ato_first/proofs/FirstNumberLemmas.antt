@@ -22,7 +22,7 @@ use Rattle.ato_nets.specs.ClassNumbers.{IsJoin}
 use Rattle.ato_first.specs.FirstPoints.{signal_names, pin_labels, end_points, line_points, lines_points, signals_of, pins_of, end_point, IsJoinedByLine, AreJoined, is_unknown_in, is_unknown_end, AreKnown}
 use Rattle.ato_first.specs.FirstJoins.{point_number, line_joins, lines_joins}
 use Rattle.ato_first.specs.declared.first_points.Points.{Points}
-use Rattle.ato_first.proofs.FirstNetLaws.{distinct_same, distinct_once, bytes_eq-flip}
+use Rattle.ato_nets.proofs.DistinctLaws.{distinct_same, distinct_once, bytes_eq-flip}
 
 -- ---- texts by their numbers
 

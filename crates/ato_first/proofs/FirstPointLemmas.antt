@@ -1,18 +1,14 @@
 -- The points of lines, and the sizes of lines.
-use Rattle.std.proofs.Common.{◌≡◌, ℕ, ◌<◌, ◌≤◌, ◌+◌, Bool, true, false, not, cond, ◌||◌, List, [], ◌∷◌, ◌++◌, length, take, drop, get_or, ap, sym, ◌∙◌, refl, append-nil, append_assoc, if◌then◌else◌, arith, length-append, suc, take-append-drop, drop-cons, add-one}
-use Rattle.std.specs.List.{list_any}
-use Rattle.std.specs.Str.{bytes_eq}
+use Rattle.std.proofs.Common.{◌≡◌, ℕ, ◌<◌, ◌≤◌, ◌+◌, List, [], ◌∷◌, ◌++◌, length, take, drop, get_or, ap, sym, ◌∙◌, refl, append-nil, arith, length-append, suc, take-append-drop, drop-cons, add-one}
 use Rattle.std.proofs.lemmas.List.{take_more, take_all}
-use Rattle.std.proofs.lemmas.List.Elements.{filter-append}
-use Rattle.ato_first.proofs.FirstNetLaws.{others, bytes_eq-flip, any-others}
 use Rattle.std.proofs.lemmas.Grind.{flat_map-append}
-use Rattle.ato_base.specs.NameTable.{with_name, with_names}
+use Rattle.ato_base.specs.NameTable.{with_names}
 use Rattle.ato_base.proofs.NameTableLaws.{with_names-append}
 use Rattle.ato_lexer.specs.FirstForm.{lined, line_text, lines_text}
 use Rattle.ato_lexer.specs.declared.first_form.Point.{Point}
 use Rattle.ato_lexer.specs.declared.first_form.Point.TheVariants.{Signal, Pin}
 use Rattle.ato_lexer.specs.declared.first_form.Line.{Line}
-use Rattle.ato_first.specs.FirstPoints.{distinct, signal_names, pin_labels, line_points, lines_points}
+use Rattle.ato_first.specs.FirstPoints.{signal_names, pin_labels, line_points, lines_points}
 
 signal_names-append : (xs ys : List Point) → signal_names (xs ++ ys) ≡ signal_names xs ++ signal_names ys
 signal_names-append [] ys = refl
@@ -58,41 +54,6 @@ size_more lines i line h is =
 pub size_within : (lines : List Line) (i : ℕ) → length (lines_text (take i lines)) ≤ length (lines_text lines)
 size_within lines i =
     omega (arith, ap (λ l. length (lines_text l)) (take-append-drop i lines), ap length (flat_map-append (λ l. lined (line_text l)) (take i lines) (drop i lines)), length-append (lines_text (take i lines)) (lines_text (drop i lines)))
-
--- ---- texts, each once
-
--- one more text at the end, where it is equal to the first one, or stands behind it, or is new
-push_step : (x y : List ℕ) (ds : List (List ℕ)) (a m : Bool) → bytes_eq y x ≡ a → list_any (bytes_eq y) ds ≡ m →
-    x ∷ others x (if m then ds else ds ++ y ∷ []) ≡ (if (a || list_any (bytes_eq y) (others x ds)) then x ∷ others x ds else (x ∷ others x ds) ++ y ∷ [])
-push_step x y ds true true e h = refl
-push_step x y ds true false e h =
-    let same : bytes_eq x y ≡ true = bytes_eq-flip x y ∙ e in
-    let gone : others x (y ∷ []) ≡ [] = ap (λ b. cond (not b) (y ∷ []) []) same in
-    ap (λ l. x ∷ l) (filter-append (λ other. not (bytes_eq x other)) ds (y ∷ []) ∙ ap (λ l. others x ds ++ l) gone ∙ append-nil (others x ds))
-push_step x y ds false true e h =
-    let there : list_any (bytes_eq y) (others x ds) ≡ true = any-others y x ds e ∙ h in
-    ap (λ b. if b then x ∷ others x ds else (x ∷ others x ds) ++ y ∷ []) (sym there)
-push_step x y ds false false e h =
-    let differs : bytes_eq x y ≡ false = bytes_eq-flip x y ∙ e in
-    let new : others x (y ∷ []) ≡ y ∷ [] = ap (λ b. cond (not b) (y ∷ []) []) differs in
-    let absent : list_any (bytes_eq y) (others x ds) ≡ false = any-others y x ds e ∙ h in
-    ap (λ l. x ∷ l) (filter-append (λ other. not (bytes_eq x other)) ds (y ∷ []) ∙ ap (λ l. others x ds ++ l) new)
-    ∙ ap (λ b. if b then x ∷ others x ds else (x ∷ others x ds) ++ y ∷ []) (sym absent)
-
--- the distinct texts after one more
-pub distinct-push : (xs : List (List ℕ)) (y : List ℕ) → distinct (xs ++ y ∷ []) ≡ with_name (distinct xs) y
-distinct-push [] y = refl
-distinct-push (x ∷ xs) y =
-    ap (λ l. x ∷ others x l) (distinct-push xs y)
-    ∙ push_step x y (distinct xs) (bytes_eq y x) (list_any (bytes_eq y) (distinct xs)) refl refl
-
--- texts mentioned one after another are the distinct ones
-mentioned : (xs ys : List (List ℕ)) → with_names (distinct xs) ys ≡ distinct (xs ++ ys)
-mentioned xs [] = ap distinct (sym (append-nil xs))
-mentioned xs (y ∷ ys) = ap (λ l. with_names l ys) (sym (distinct-push xs y)) ∙ mentioned (xs ++ y ∷ []) ys ∙ ap distinct (append_assoc xs (y ∷ []) ys)
-
-pub all_mentioned : (xs : List (List ℕ)) → with_names [] xs ≡ distinct xs
-all_mentioned xs = mentioned [] xs
 
 -- ---- lists of lines
 

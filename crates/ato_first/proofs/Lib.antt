@@ -1,5 +1,4 @@
 pub mod FirstBlockLemmas
-pub mod FirstGroupLemmas
 pub mod FirstLineLemmas
 pub mod FirstListLemmas
 pub mod FirstNetLaws

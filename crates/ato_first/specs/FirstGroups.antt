@@ -1,18 +1,9 @@
--- The pins of a block by numbers, in their classes.
-use Rattle.std.specs.Prelude.{◌≡◌, ℕ, ◌+◌, nat_lt, if◌then◌else◌, List, [], ◌∷◌, ◌++◌, length, map, zero, suc}
+-- The nets that groups of pins by their numbers make.
+use Rattle.std.specs.Prelude.{ℕ, ◌+◌, nat_lt, if◌then◌else◌, List, [], ◌∷◌, length, map}
 use Rattle.std.specs.List.{slice_index, slice_index_or}
 use Rattle.ato_base.specs.declared.nets.Net.{Net}
 use Rattle.ato_first.specs.FirstNets.{net_pin}
 use Rattle.ato_first.specs.declared.first_points.Points.{Points}
-
--- The points of two pins have one class number, where the pins' points begin at a number.
-abbrev pub SameClass : List ℕ → ℕ → ℕ → ℕ → Type 0
-SameClass of first i j = slice_index of (first + i) ≡ slice_index of (first + j)
-
--- the numbers below this one, in their order
-abbrev pub numbers_below : ℕ → List ℕ
-numbers_below zero = []
-numbers_below (suc n) = numbers_below n ++ n ∷ []
 
 -- the label of a pin
 abbrev pub label_at : Points → ℕ → List ℕ

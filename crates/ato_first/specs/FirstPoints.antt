@@ -1,22 +1,18 @@
 -- The points of a block of the first form, which of them are joined, and the first name that is no signal or attribute.
-use Rattle.std.specs.Prelude.{◌≡◌, ℕ, Bool, true, false, ◌||◌, not, List, [], ◌∷◌, ◌++◌, length, filter, Contains, Option, Some, None}
+use Rattle.std.specs.Prelude.{◌≡◌, ℕ, Bool, true, false, ◌||◌, not, List, [], ◌∷◌, ◌++◌, length, Contains, Option, Some, None}
 use Rattle.std.specs.List.{list_any, flat_map}
 use Rattle.std.specs.Str.{bytes_eq}
 use Rattle.ato_base.specs.Joined.{Joined}
+use Rattle.ato_nets.specs.Distinct.{distinct}
 use Rattle.ato_lexer.specs.FirstForm.{lined, head_text, lines_text}
 use Rattle.ato_lexer.specs.declared.first_form.Point.{Point}
 use Rattle.ato_lexer.specs.declared.first_form.Point.TheVariants.{Signal, Pin}
 use Rattle.ato_lexer.specs.declared.first_form.End.{End}
 use Rattle.ato_lexer.specs.declared.first_form.End.TheVariants.{Name, Declared}
 use Rattle.ato_lexer.specs.declared.first_form.Line.{Line}
-use Rattle.ato_lexer.specs.declared.first_form.Line.TheVariants.{Pass, Declaration, Join, Kind, Attribute, Assertion}
+use Rattle.ato_lexer.specs.declared.first_form.Line.TheVariants.{Declaration, Join, Assertion}
 use Rattle.ato_lexer.specs.PartLines.{attribute_of}
 use Rattle.ato_lexer.specs.declared.first_form.Block.{Block}
-
--- each text once, in the order of the first mentions
-abbrev pub distinct : List (List ℕ) → List (List ℕ)
-distinct [] = []
-distinct (text ∷ texts) = text ∷ filter (λ other. not (bytes_eq text other)) (distinct texts)
 
 -- the points that are declared, in their order
 abbrev pub end_points : End → List Point
@@ -24,12 +20,9 @@ end_points (Name name) = []
 end_points (Declared point) = point ∷ []
 
 abbrev pub line_points : Line → List Point
-line_points Pass = []
 line_points (Declaration point) = point ∷ []
 line_points (Join left right) = end_points left ++ end_points right
-line_points (Kind text) = []
-line_points (Attribute name) = []
-line_points (Assertion asserted) = []
+line_points line = []
 
 abbrev pub lines_points : List Line → List Point
 lines_points lines = flat_map line_points lines
@@ -82,12 +75,9 @@ is_unknown_end signals (Declared point) = false
 
 -- An end of the line is a name that is no signal, or the line asserts something of a name that is not the attribute.
 abbrev pub is_unknown : List (List ℕ) → Option (List ℕ) → Line → Bool
-is_unknown signals attribute Pass = false
-is_unknown signals attribute (Declaration point) = false
 is_unknown signals attribute (Join left right) = is_unknown_end signals left || is_unknown_end signals right
-is_unknown signals attribute (Kind text) = false
-is_unknown signals attribute (Attribute name) = false
 is_unknown signals attribute (Assertion asserted) = is_other attribute asserted.name
+is_unknown signals attribute line = false
 
 -- A line of the block mentions a name that is not known there.
 abbrev pub is_unknown_in : Block → Line → Bool

@@ -1,15 +1,15 @@
 ghost use Rattle.std.specs.Prelude.{◌≡◌, ◌+◌, ◌<◌, ◌||◌, nat_lt, All, IfOk, length, map};
+ghost use Rattle.ato_lexer.specs.declared.first_form.Block.{Block};
 ghost use Rattle.ato_first.specs.FirstPoints.{AreJoined, AreKnown, IsJoinedByLine, pins_of};
 ghost use Rattle.ato_base.specs.LeastEquivalence.{IsLeastEquivalence};
 ghost use Rattle.ato_first.specs.FirstGroups.{class_name, group_net, label_at};
 ghost use Rattle.ato_first.specs.FirstParts.{part_of, slot_count};
 ghost use Rattle.ato_first.specs.FirstNets.{comps_with, net_pin, IsNetList, SharesExactly};
 
-use crate::first_groups::groups_of;
 use crate::first_points::{Points, joins_of, points_of};
 use ato_base::{Comp, List, Net, NetList, NetPin, NoMemory, Text};
 use ato_lexer::Block;
-use ato_nets::class_numbers;
+use ato_nets::{class_numbers, groups_of};
 use std::alloc::Global;
 
 /// The name of a net with this first pin: the first signal that is joined with it, or the pin's own.
@@ -106,13 +106,11 @@ fn is_comp(slots: usize, pins: usize) -> bool
 }
 
 /// The net list of a block of the first form, with what stands for its part: its nets are the classes of joined pins.
-/// Being joined is the least equivalence that holds the joins of the lines.
 pub fn list_of(alloc: Global, block: &Block, value: &str, slots: usize) -> Result<NetList, NoMemory>
     requires known { AreKnown block.now }
     requires slots { slots ≡ slot_count (part_of block.now.lines) }
     ensures list { IfOk result (IsNetList block.now value.now) }
     ensures shares { IfOk result (SharesExactly block.now) }
-    ensures equivalence { IsLeastEquivalence (IsJoinedByLine block.now) (AreJoined block.now) }
 {
     let lines = block.lines.as_slice();
     let points = points_of(alloc, lines)?;
@@ -126,3 +124,9 @@ pub fn list_of(alloc: Global, block: &Block, value: &str, slots: usize) -> Resul
         nets: nets_of(alloc, &points, &of, groups.as_slice())?,
     })
 }
+
+/// Being joined is the least equivalence that holds the joins of a block's lines. It does nothing: the
+/// law is its contract.
+pub fn joining()
+    ensures equivalence { (block : Block) → IsLeastEquivalence (IsJoinedByLine block) (AreJoined block) }
+{}

@@ -1,5 +1,6 @@
 ghost use Rattle.std.specs.Prelude.{◌≡◌, ◌∷◌, [], OnOk, IfOk};
-ghost use Rattle.ato_first.specs.FirstPoints.{distinct, signal_names, pin_labels, end_points, line_points, lines_points, end_point};
+ghost use Rattle.ato_first.specs.FirstPoints.{signal_names, pin_labels, end_points, line_points, lines_points, end_point};
+ghost use Rattle.ato_nets.specs.Distinct.{distinct};
 ghost use Rattle.ato_first.specs.FirstJoins.{Adds, point_number, line_joins, lines_joins};
 
 use crate::text_set::TextSet;

@@ -8,7 +8,6 @@
 #![tactic(auto)]
 
 mod first_block;
-mod first_groups;
 mod first_lines;
 mod first_nets;
 mod first_parts;
@@ -17,6 +16,6 @@ mod line_faults;
 mod text_set;
 
 pub use first_block::read_block;
-pub use first_nets::list_of;
+pub use first_nets::{joining, list_of};
 pub use first_parts::{Part, part_of};
 pub use line_faults::{empty_line, unknown_line};

@@ -1,4 +1,4 @@
--- How the groups of pins grow.
+-- How the groups of points grow.
 use Rattle.std.proofs.Common.{◌≡◌, ◌≢◌, ℕ, zero, suc, ◌<◌, ◌≤◌, ◌+◌, ◌-◌, List, [], ◌∷◌, ◌++◌, length, get_or, set, ap, sym, ◌∙◌, refl, arith, subst, inl, inr, length-append, length-set, replicate}
 use Rattle.std.specs.Prelude.{Contains}
 use Rattle.std.proofs.lemmas.List.{get_or-set_same, get_or-set_other, get_or_append_left, get_or-replicate, length-replicate}
@@ -7,12 +7,12 @@ use Rattle.std.proofs.lemmas.Bool.Decides.{eqb_tells}
 use Rattle.std.proofs.lemmas.List.Elements.{Contains-append_left, Contains-append_cases}
 use Rattle.ato_base.specs.Classes.{Classes, no_class}
 use Rattle.ato_base.proofs.ClassLaws.{classes_new, classes_more}
-use Rattle.ato_first.specs.FirstGroups.{SameClass, numbers_below}
+use Rattle.ato_nets.specs.Groups.{SameClass, numbers_below}
 
--- The places of the classes of the pins so far: 0, or one more than the place of the group of the class.
-pub record Places (of : List ℕ) (first pin : ℕ) (groups : List (List ℕ)) (places : List ℕ) : Type 0 where
+-- The places of the classes of the points so far: 0, or one more than the place of the group of the class.
+pub record Places (of : List ℕ) (first point : ℕ) (groups : List (List ℕ)) (places : List ℕ) : Type 0 where
   pub size : length places ≡ length of
-  pub placed : (i : ℕ) → i < pin → get_or places (get_or of (first + i) 0) 0 ≡ 0 → ⊥
+  pub placed : (i : ℕ) → i < point → get_or places (get_or of (first + i) 0) 0 ≡ 0 → ⊥
   pub within : (m : ℕ) → m < length of → get_or places m 0 ≤ length groups
   pub held : (m : ℕ) → m < length of → 0 < get_or places m 0 → (x : ℕ) × Contains (get_or groups (get_or places m 0 - 1) []) x × (get_or of (first + x) 0 ≡ m)
 
@@ -35,101 +35,101 @@ module _ (of : List ℕ) (first : ℕ) where
   same_chain : (i j k : ℕ) → SameClass of first i j → SameClass of first j k → SameClass of first i k
   same_chain i j k e f = e ∙ f
 
-  -- a pin of a class that has no place
-  pub new_group : (pin : ℕ) (groups : List (List ℕ)) (places : List ℕ) → Classes (SameClass of first) (numbers_below pin) groups → Places of first pin groups places
-      → get_or places (get_or of (first + pin) 0) 0 ≡ 0 → Classes (SameClass of first) (numbers_below (suc pin)) (groups ++ (pin ∷ []) ∷ [])
-  new_group pin groups places classes h none =
-      classes_new (SameClass of first) classes pin (λ x m same. h.placed x (below pin x m) (ap (λ c. get_or places c 0) same ∙ none))
+  -- a point of a class that has no place
+  pub new_group : (point : ℕ) (groups : List (List ℕ)) (places : List ℕ) → Classes (SameClass of first) (numbers_below point) groups → Places of first point groups places
+      → get_or places (get_or of (first + point) 0) 0 ≡ 0 → Classes (SameClass of first) (numbers_below (suc point)) (groups ++ (point ∷ []) ∷ [])
+  new_group point groups places classes h none =
+      classes_new (SameClass of first) classes point (λ x m same. h.placed x (below point x m) (ap (λ c. get_or places c 0) same ∙ none))
 
   -- the place of the new class is the last, and the others stay
-  here : (pin : ℕ) (groups : List (List ℕ)) (places : List ℕ) → Places of first pin groups places → get_or of (first + pin) 0 < length of
-      → get_or (set places (get_or of (first + pin) 0) (length groups + 1)) (get_or of (first + pin) 0) 0 ≡ length groups + 1
-  here pin groups places h fits = get_or-set_same places (get_or of (first + pin) 0) (length groups + 1) 0 (omega (arith, h.size))
+  here : (point : ℕ) (groups : List (List ℕ)) (places : List ℕ) → Places of first point groups places → get_or of (first + point) 0 < length of
+      → get_or (set places (get_or of (first + point) 0) (length groups + 1)) (get_or of (first + point) 0) 0 ≡ length groups + 1
+  here point groups places h fits = get_or-set_same places (get_or of (first + point) 0) (length groups + 1) 0 (omega (arith, h.size))
 
-  there : (pin : ℕ) (groups : List (List ℕ)) (places : List ℕ) (m : ℕ) → m ≢ get_or of (first + pin) 0
-      → get_or (set places (get_or of (first + pin) 0) (length groups + 1)) m 0 ≡ get_or places m 0
-  there pin groups places m other = get_or-set_other places (get_or of (first + pin) 0) m (length groups + 1) 0 other
+  there : (point : ℕ) (groups : List (List ℕ)) (places : List ℕ) (m : ℕ) → m ≢ get_or of (first + point) 0
+      → get_or (set places (get_or of (first + point) 0) (length groups + 1)) m 0 ≡ get_or places m 0
+  there point groups places m other = get_or-set_other places (get_or of (first + point) 0) m (length groups + 1) 0 other
 
-  pub new_places : (pin : ℕ) (groups : List (List ℕ)) (places : List ℕ) → Places of first pin groups places → get_or of (first + pin) 0 < length of
-      → get_or places (get_or of (first + pin) 0) 0 ≡ 0 → Places of first (suc pin) (groups ++ (pin ∷ []) ∷ []) (set places (get_or of (first + pin) 0) (length groups + 1))
-  new_places pin groups places h fits none = record { size = length-set places (get_or of (first + pin) 0) (length groups + 1) ∙ h.size; placed = placed; within = within; held = held }
+  pub new_places : (point : ℕ) (groups : List (List ℕ)) (places : List ℕ) → Places of first point groups places → get_or of (first + point) 0 < length of
+      → get_or places (get_or of (first + point) 0) 0 ≡ 0 → Places of first (suc point) (groups ++ (point ∷ []) ∷ []) (set places (get_or of (first + point) 0) (length groups + 1))
+  new_places point groups places h fits none = record { size = length-set places (get_or of (first + point) 0) (length groups + 1) ∙ h.size; placed = placed; within = within; held = held }
     where
-      placed : (i : ℕ) → i < suc pin → get_or (set places (get_or of (first + pin) 0) (length groups + 1)) (get_or of (first + i) 0) 0 ≡ 0 → ⊥
-      placed i l e = elim (eqb_tells (get_or of (first + i) 0) (get_or of (first + pin) 0)) [
-        | inl same ↦ let at : get_or (set places (get_or of (first + pin) 0) (length groups + 1)) (get_or of (first + i) 0) 0 ≡ length groups + 1 =
-            ap (λ c. get_or (set places (get_or of (first + pin) 0) (length groups + 1)) c 0) same.1 ∙ here pin groups places h fits in omega arith
-        | inr other ↦ elim (eqb_tells i pin) [
+      placed : (i : ℕ) → i < suc point → get_or (set places (get_or of (first + point) 0) (length groups + 1)) (get_or of (first + i) 0) 0 ≡ 0 → ⊥
+      placed i l e = elim (eqb_tells (get_or of (first + i) 0) (get_or of (first + point) 0)) [
+        | inl same ↦ let at : get_or (set places (get_or of (first + point) 0) (length groups + 1)) (get_or of (first + i) 0) 0 ≡ length groups + 1 =
+            ap (λ c. get_or (set places (get_or of (first + point) 0) (length groups + 1)) c 0) same.1 ∙ here point groups places h fits in omega arith
+        | inr other ↦ elim (eqb_tells i point) [
           | inl last ↦ other.1 (ap (λ k. get_or of (first + k) 0) last.1)
-          | inr earlier ↦ let less : i < pin = omega (arith, earlier.1) in h.placed i less (sym (there pin groups places (get_or of (first + i) 0) other.1) ∙ e)
+          | inr earlier ↦ let less : i < point = omega (arith, earlier.1) in h.placed i less (sym (there point groups places (get_or of (first + i) 0) other.1) ∙ e)
         ]
       ]
 
-      within : (m : ℕ) → m < length of → get_or (set places (get_or of (first + pin) 0) (length groups + 1)) m 0 ≤ length (groups ++ (pin ∷ []) ∷ [])
-      within m l = elim (eqb_tells m (get_or of (first + pin) 0)) [
-        | inl same ↦ omega (arith, ap (λ c. get_or (set places (get_or of (first + pin) 0) (length groups + 1)) c 0) same.1, here pin groups places h fits, length-append groups ((pin ∷ []) ∷ []))
-        | inr other ↦ omega (arith, there pin groups places m other.1, h.within m l, length-append groups ((pin ∷ []) ∷ []))
+      within : (m : ℕ) → m < length of → get_or (set places (get_or of (first + point) 0) (length groups + 1)) m 0 ≤ length (groups ++ (point ∷ []) ∷ [])
+      within m l = elim (eqb_tells m (get_or of (first + point) 0)) [
+        | inl same ↦ omega (arith, ap (λ c. get_or (set places (get_or of (first + point) 0) (length groups + 1)) c 0) same.1, here point groups places h fits, length-append groups ((point ∷ []) ∷ []))
+        | inr other ↦ omega (arith, there point groups places m other.1, h.within m l, length-append groups ((point ∷ []) ∷ []))
       ]
 
-      held : (m : ℕ) → m < length of → 0 < get_or (set places (get_or of (first + pin) 0) (length groups + 1)) m 0
-          → (x : ℕ) × Contains (get_or (groups ++ (pin ∷ []) ∷ []) (get_or (set places (get_or of (first + pin) 0) (length groups + 1)) m 0 - 1) []) x × (get_or of (first + x) 0 ≡ m)
-      held m l some = elim (eqb_tells m (get_or of (first + pin) 0)) [
+      held : (m : ℕ) → m < length of → 0 < get_or (set places (get_or of (first + point) 0) (length groups + 1)) m 0
+          → (x : ℕ) × Contains (get_or (groups ++ (point ∷ []) ∷ []) (get_or (set places (get_or of (first + point) 0) (length groups + 1)) m 0 - 1) []) x × (get_or of (first + x) 0 ≡ m)
+      held m l some = elim (eqb_tells m (get_or of (first + point) 0)) [
         | inl same ↦
-            let place : get_or (set places (get_or of (first + pin) 0) (length groups + 1)) m 0 - 1 ≡ length groups =
-            omega (arith, ap (λ c. get_or (set places (get_or of (first + pin) 0) (length groups + 1)) c 0) same.1, here pin groups places h fits) in
-            let group : get_or (groups ++ (pin ∷ []) ∷ []) (get_or (set places (get_or of (first + pin) 0) (length groups + 1)) m 0 - 1) [] ≡ pin ∷ [] =
-            ap (λ n. get_or (groups ++ (pin ∷ []) ∷ []) n []) place ∙ get_or-append_seam groups (pin ∷ []) [] [] in
-            (pin, subst (λ g. Contains g pin) (sym group) (0, omega arith, refl), sym same.1)
+            let place : get_or (set places (get_or of (first + point) 0) (length groups + 1)) m 0 - 1 ≡ length groups =
+            omega (arith, ap (λ c. get_or (set places (get_or of (first + point) 0) (length groups + 1)) c 0) same.1, here point groups places h fits) in
+            let group : get_or (groups ++ (point ∷ []) ∷ []) (get_or (set places (get_or of (first + point) 0) (length groups + 1)) m 0 - 1) [] ≡ point ∷ [] =
+            ap (λ n. get_or (groups ++ (point ∷ []) ∷ []) n []) place ∙ get_or-append_seam groups (point ∷ []) [] [] in
+            (point, subst (λ g. Contains g point) (sym group) (0, omega arith, refl), sym same.1)
         | inr other ↦
-            let same : get_or (set places (get_or of (first + pin) 0) (length groups + 1)) m 0 ≡ get_or places m 0 = there pin groups places m other.1 in
+            let same : get_or (set places (get_or of (first + point) 0) (length groups + 1)) m 0 ≡ get_or places m 0 = there point groups places m other.1 in
             let found = h.held m l (subst (λ n. 0 < n) same some) in
-            let group : get_or (groups ++ (pin ∷ []) ∷ []) (get_or (set places (get_or of (first + pin) 0) (length groups + 1)) m 0 - 1) [] ≡ get_or groups (get_or places m 0 - 1) [] =
-            ap (λ n. get_or (groups ++ (pin ∷ []) ∷ []) (n - 1) []) same ∙ get_or_append_left groups ((pin ∷ []) ∷ []) [] (get_or places m 0 - 1) (omega (arith, same, h.within m l)) in
+            let group : get_or (groups ++ (point ∷ []) ∷ []) (get_or (set places (get_or of (first + point) 0) (length groups + 1)) m 0 - 1) [] ≡ get_or groups (get_or places m 0 - 1) [] =
+            ap (λ n. get_or (groups ++ (point ∷ []) ∷ []) (n - 1) []) same ∙ get_or_append_left groups ((point ∷ []) ∷ []) [] (get_or places m 0 - 1) (omega (arith, same, h.within m l)) in
             (found.0, subst (λ g. Contains g found.0) (sym group) found.1, found.2)
       ]
 
-  -- ---- a pin of a class that has a place
+  -- ---- a point of a class that has a place
 
-  pub old_group : (pin : ℕ) (groups : List (List ℕ)) (places : List ℕ) → Classes (SameClass of first) (numbers_below pin) groups → Places of first pin groups places
-      → get_or of (first + pin) 0 < length of → (place : ℕ) → get_or places (get_or of (first + pin) 0) 0 ≡ place + 1
-      → Classes (SameClass of first) (numbers_below (suc pin)) (set groups place (get_or groups place [] ++ pin ∷ []))
-  old_group pin groups places classes h fits place is =
-      let found = h.held (get_or of (first + pin) 0) fits (omega arith) in
-      let here : get_or places (get_or of (first + pin) 0) 0 - 1 ≡ place = omega arith in
-      classes_more (SameClass of first) same_self same_flip same_chain classes place found.0 pin (omega (arith, h.within (get_or of (first + pin) 0) fits))
+  pub old_group : (point : ℕ) (groups : List (List ℕ)) (places : List ℕ) → Classes (SameClass of first) (numbers_below point) groups → Places of first point groups places
+      → get_or of (first + point) 0 < length of → (place : ℕ) → get_or places (get_or of (first + point) 0) 0 ≡ place + 1
+      → Classes (SameClass of first) (numbers_below (suc point)) (set groups place (get_or groups place [] ++ point ∷ []))
+  old_group point groups places classes h fits place is =
+      let found = h.held (get_or of (first + point) 0) fits (omega arith) in
+      let here : get_or places (get_or of (first + point) 0) 0 - 1 ≡ place = omega arith in
+      classes_more (SameClass of first) same_self same_flip same_chain classes place found.0 point (omega (arith, h.within (get_or of (first + point) 0) fits))
       (subst (λ n. Contains (get_or groups n []) found.0) here found.1) found.2
 
-  pub old_places : (pin : ℕ) (groups : List (List ℕ)) (places : List ℕ) → Places of first pin groups places → get_or of (first + pin) 0 < length of
-      → (place : ℕ) → get_or places (get_or of (first + pin) 0) 0 ≡ place + 1 → Places of first (suc pin) (set groups place (get_or groups place [] ++ pin ∷ [])) places
-  old_places pin groups places h fits place is = record { size = h.size; placed = placed; within = λ m l. omega (arith, h.within m l, length-set groups place (get_or groups place [] ++ pin ∷ [])); held = held }
+  pub old_places : (point : ℕ) (groups : List (List ℕ)) (places : List ℕ) → Places of first point groups places → get_or of (first + point) 0 < length of
+      → (place : ℕ) → get_or places (get_or of (first + point) 0) 0 ≡ place + 1 → Places of first (suc point) (set groups place (get_or groups place [] ++ point ∷ [])) places
+  old_places point groups places h fits place is = record { size = h.size; placed = placed; within = λ m l. omega (arith, h.within m l, length-set groups place (get_or groups place [] ++ point ∷ [])); held = held }
     where
-      placed : (i : ℕ) → i < suc pin → get_or places (get_or of (first + i) 0) 0 ≡ 0 → ⊥
-      placed i l e = elim (eqb_tells i pin) [
+      placed : (i : ℕ) → i < suc point → get_or places (get_or of (first + i) 0) 0 ≡ 0 → ⊥
+      placed i l e = elim (eqb_tells i point) [
         | inl last ↦ let at : get_or places (get_or of (first + i) 0) 0 ≡ place + 1 = ap (λ k. get_or places (get_or of (first + k) 0) 0) last.1 ∙ is in omega arith
-        | inr earlier ↦ let less : i < pin = omega (arith, earlier.1) in h.placed i less e
+        | inr earlier ↦ let less : i < point = omega (arith, earlier.1) in h.placed i less e
       ]
 
-      held : (m : ℕ) → m < length of → 0 < get_or places m 0 → (x : ℕ) × Contains (get_or (set groups place (get_or groups place [] ++ pin ∷ [])) (get_or places m 0 - 1) []) x × (get_or of (first + x) 0 ≡ m)
+      held : (m : ℕ) → m < length of → 0 < get_or places m 0 → (x : ℕ) × Contains (get_or (set groups place (get_or groups place [] ++ point ∷ [])) (get_or places m 0 - 1) []) x × (get_or of (first + x) 0 ≡ m)
       held m l some =
           let found = h.held m l some in
           elim (eqb_tells (get_or places m 0 - 1) place) [
             | inl same ↦
-                let group : get_or (set groups place (get_or groups place [] ++ pin ∷ [])) (get_or places m 0 - 1) [] ≡ get_or groups (get_or places m 0 - 1) [] ++ pin ∷ [] =
-                ap (λ n. get_or (set groups place (get_or groups place [] ++ pin ∷ [])) n []) same.1
-                ∙ get_or-set_same groups place (get_or groups place [] ++ pin ∷ []) [] (omega (arith, h.within m l, same.1))
-                ∙ ap (λ n. get_or groups n [] ++ pin ∷ []) (sym same.1) in
-                (found.0, subst (λ g. Contains g found.0) (sym group) (Contains-append_left (get_or groups (get_or places m 0 - 1) []) (pin ∷ []) found.0 found.1), found.2)
+                let group : get_or (set groups place (get_or groups place [] ++ point ∷ [])) (get_or places m 0 - 1) [] ≡ get_or groups (get_or places m 0 - 1) [] ++ point ∷ [] =
+                ap (λ n. get_or (set groups place (get_or groups place [] ++ point ∷ [])) n []) same.1
+                ∙ get_or-set_same groups place (get_or groups place [] ++ point ∷ []) [] (omega (arith, h.within m l, same.1))
+                ∙ ap (λ n. get_or groups n [] ++ point ∷ []) (sym same.1) in
+                (found.0, subst (λ g. Contains g found.0) (sym group) (Contains-append_left (get_or groups (get_or places m 0 - 1) []) (point ∷ []) found.0 found.1), found.2)
             | inr other ↦
-                let group : get_or (set groups place (get_or groups place [] ++ pin ∷ [])) (get_or places m 0 - 1) [] ≡ get_or groups (get_or places m 0 - 1) [] =
-                get_or-set_other groups place (get_or places m 0 - 1) (get_or groups place [] ++ pin ∷ []) [] other.1 in
+                let group : get_or (set groups place (get_or groups place [] ++ point ∷ [])) (get_or places m 0 - 1) [] ≡ get_or groups (get_or places m 0 - 1) [] =
+                get_or-set_other groups place (get_or places m 0 - 1) (get_or groups place [] ++ point ∷ []) [] other.1 in
                 (found.0, subst (λ g. Contains g found.0) (sym group) found.1, found.2)
           ]
 
 -- ---- the loop
 
--- What stands before each pin.
-pub record Grouped (of : List ℕ) (first pin : ℕ) (groups : List (List ℕ)) (places : List ℕ) : Type 0 where
-  pub told_apart : Classes (SameClass of first) (numbers_below pin) groups
-  pub in_places : Places of first pin groups places
+-- What stands before each point.
+pub record Grouped (of : List ℕ) (first point : ℕ) (groups : List (List ℕ)) (places : List ℕ) : Type 0 where
+  pub told_apart : Classes (SameClass of first) (numbers_below point) groups
+  pub in_places : Places of first point groups places
 
 pub none_grouped : (of : List ℕ) (first n : ℕ) → n ≡ length of → Grouped of first 0 [] (replicate n 0)
 none_grouped of first n size = record {
@@ -142,19 +142,19 @@ none_grouped of first n size = record {
   };
 }
 
--- one pin more, whose class is in range
-pub one_grouped : (of : List ℕ) (first pin : ℕ) (groups : List (List ℕ)) (places : List ℕ) (new : List (List ℕ)) (later : List ℕ) → Grouped of first pin groups places → get_or of (first + pin) 0 < length of
-    → (get_or places (get_or of (first + pin) 0) 0 ≡ 0 → (new ≡ groups ++ (pin ∷ []) ∷ []) × (later ≡ set places (get_or of (first + pin) 0) (length groups + 1)))
-    → ((place : ℕ) → get_or places (get_or of (first + pin) 0) 0 ≡ place + 1 → (new ≡ set groups place (get_or groups place [] ++ pin ∷ [])) × (later ≡ places))
-    → Grouped of first (suc pin) new later
-one_grouped of first pin groups places new later h fits fresh known = elim (eqb_tells (get_or places (get_or of (first + pin) 0) 0) 0) [
-  | inl none ↦ let is = fresh none.1 in both is.0 is.1 (new_group of first pin groups places h.told_apart h.in_places none.1) (new_places of first pin groups places h.in_places fits none.1)
+-- one point more, whose class is in range
+pub one_grouped : (of : List ℕ) (first point : ℕ) (groups : List (List ℕ)) (places : List ℕ) (new : List (List ℕ)) (later : List ℕ) → Grouped of first point groups places → get_or of (first + point) 0 < length of
+    → (get_or places (get_or of (first + point) 0) 0 ≡ 0 → (new ≡ groups ++ (point ∷ []) ∷ []) × (later ≡ set places (get_or of (first + point) 0) (length groups + 1)))
+    → ((place : ℕ) → get_or places (get_or of (first + point) 0) 0 ≡ place + 1 → (new ≡ set groups place (get_or groups place [] ++ point ∷ [])) × (later ≡ places))
+    → Grouped of first (suc point) new later
+one_grouped of first point groups places new later h fits fresh known = elim (eqb_tells (get_or places (get_or of (first + point) 0) 0) 0) [
+  | inl none ↦ let is = fresh none.1 in both is.0 is.1 (new_group of first point groups places h.told_apart h.in_places none.1) (new_places of first point groups places h.in_places fits none.1)
   | inr some ↦
-      let place : ℕ = get_or places (get_or of (first + pin) 0) 0 - 1 in
-      let at : get_or places (get_or of (first + pin) 0) 0 ≡ place + 1 = omega (arith, some.1) in
+      let place : ℕ = get_or places (get_or of (first + point) 0) 0 - 1 in
+      let at : get_or places (get_or of (first + point) 0) 0 ≡ place + 1 = omega (arith, some.1) in
       let is = known place at in
-      both is.0 is.1 (old_group of first pin groups places h.told_apart h.in_places fits place at) (old_places of first pin groups places h.in_places fits place at)
+      both is.0 is.1 (old_group of first point groups places h.told_apart h.in_places fits place at) (old_places of first point groups places h.in_places fits place at)
 ]
   where
-    both : {made : List (List ℕ)} {kept : List ℕ} → new ≡ made → later ≡ kept → Classes (SameClass of first) (numbers_below (suc pin)) made → Places of first (suc pin) made kept → Grouped of first (suc pin) new later
-    both {made} {kept} p q classes placed = subst (λ g. Grouped of first (suc pin) g later) (sym p) (subst (λ l. Grouped of first (suc pin) made l) (sym q) (record { told_apart = classes; in_places = placed }))
+    both : {made : List (List ℕ)} {kept : List ℕ} → new ≡ made → later ≡ kept → Classes (SameClass of first) (numbers_below (suc point)) made → Places of first (suc point) made kept → Grouped of first (suc point) new later
+    both {made} {kept} p q classes placed = subst (λ g. Grouped of first (suc point) g later) (sym p) (subst (λ l. Grouped of first (suc point) made l) (sym q) (record { told_apart = classes; in_places = placed }))

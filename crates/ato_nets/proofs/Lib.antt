@@ -1,3 +1,5 @@
 pub mod ClassNumberLaws
+pub mod DistinctLaws
 pub mod FloodLemmas
+pub mod GroupLemmas
 pub mod RowLemmas

@@ -1,2 +1,4 @@
 pub mod ClassNumbers
+pub mod Distinct
 pub mod Flooding
+pub mod Groups

@@ -1,12 +1,14 @@
 use Rattle.std.proofs.Common.{◌<◌, ◌+◌, ◌∙◌, ap, sym, subst, arith, length, map}
 use Rattle.std.specs.Prelude.{All}
 use Rattle.ato_base.specs.Classes.{Classes}
-use Rattle.ato_first.specs.FirstPoints.{distinct, signal_names, pin_labels, lines_points}
+use Rattle.ato_nets.specs.Distinct.{distinct}
+use Rattle.ato_first.specs.FirstPoints.{signal_names, pin_labels, lines_points}
 use Rattle.ato_first.specs.FirstJoins.{lines_joins}
-use Rattle.ato_first.specs.FirstGroups.{SameClass, numbers_below, group_net}
+use Rattle.ato_nets.specs.Groups.{SameClass, numbers_below}
+use Rattle.ato_first.specs.FirstGroups.{group_net}
 use Rattle.ato_nets.proofs.ClassNumberLaws.{classes_within}
 use Rattle.ato_first.proofs.FirstListLemmas.{joins_fit, groups_fit, list_made, comp_told}
-use Rattle.ato_first.proofs.FirstNetLaws.{shares_exactly, joined_by_lines}
+use Rattle.ato_first.proofs.FirstNetLaws.{shares_exactly}
 use Rattle.ato_first.proofs.first_nets.list_of.Goals as goal
 
 pub class_numbers-requires : goal.class_numbers-requires
@@ -49,24 +51,3 @@ returns-clause-list c =
 
 pub returns-clause-shares : goal.returns-clause-shares
 returns-clause-shares c = shares_exactly c.args.block.now c.args.value.now (record { comps = c.in_ok-comps_of.field-0; nets = c.in_ok-nets_of.field-0 }) (returns-clause-list c)
-
-pub returns-in_err-points-clause-equivalence : goal.returns-in_err-points-clause-equivalence
-returns-in_err-points-clause-equivalence c = joined_by_lines c.args.block.now
-
-pub returns-in_err-joins-clause-equivalence : goal.returns-in_err-joins-clause-equivalence
-returns-in_err-joins-clause-equivalence c = joined_by_lines c.args.block.now
-
-pub returns-in_err-of-clause-equivalence : goal.returns-in_err-of-clause-equivalence
-returns-in_err-of-clause-equivalence c = joined_by_lines c.args.block.now
-
-pub returns-in_err-groups-clause-equivalence : goal.returns-in_err-groups-clause-equivalence
-returns-in_err-groups-clause-equivalence c = joined_by_lines c.args.block.now
-
-pub returns-in_err-comps_of-clause-equivalence : goal.returns-in_err-comps_of-clause-equivalence
-returns-in_err-comps_of-clause-equivalence c = joined_by_lines c.args.block.now
-
-pub returns-in_err-nets_of-clause-equivalence : goal.returns-in_err-nets_of-clause-equivalence
-returns-in_err-nets_of-clause-equivalence c = joined_by_lines c.args.block.now
-
-pub returns-clause-equivalence : goal.returns-clause-equivalence
-returns-clause-equivalence c = joined_by_lines c.args.block.now

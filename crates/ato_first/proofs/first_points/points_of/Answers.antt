@@ -1,7 +1,8 @@
 use Rattle.std.proofs.Common.{◌∙◌, ap, sym, []}
 use Rattle.ato_first.specs.FirstPoints.{signal_names, pin_labels, line_points, lines_points}
 use Rattle.ato_base.specs.NameTable.{with_names}
-use Rattle.ato_first.proofs.FirstPointLemmas.{signals_more, pins_more, all_mentioned, all_lines}
+use Rattle.ato_first.proofs.FirstPointLemmas.{signals_more, pins_more, all_lines}
+use Rattle.ato_nets.proofs.DistinctLaws.{all_mentioned}
 use Rattle.ato_first.proofs.first_points.points_of.Goals as goal
 
 pub loop-line-preserved : goal.loop-line-preserved

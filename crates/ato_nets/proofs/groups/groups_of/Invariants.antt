@@ -1,5 +1,5 @@
-use Rattle.ato_first.proofs.FirstGroupLemmas.{Grouped}
-use Rattle.ato_first.proofs.first_groups.groups_of.Given as goal
+use Rattle.ato_nets.proofs.GroupLemmas.{Grouped}
+use Rattle.ato_nets.proofs.groups.groups_of.Given as goal
 
-abbrev pub invariant-loop-pin : goal.invariant-loop-pin
-invariant-loop-pin l = Grouped l.of l.first l.pin l.groups l.places.items
+abbrev pub invariant-loop-point : goal.invariant-loop-point
+invariant-loop-point l = Grouped l.of l.first l.point l.groups l.places.items
