@@ -3,7 +3,9 @@ use Rattle.std.proofs.Common.{◌≡◌, ℕ, ◌==◌, true, false, ◌||◌, L
 use Rattle.std.specs.Prelude.{codes, unwrap_or}
 use Rattle.std.specs.List.{list_any}
 use Rattle.std.proofs.lemmas.Bool.{and_parts, not-true}
-use Rattle.ato_words.specs.Words.{is_entry, IsBuildOf, IsBuild, IsCheckOf, IsCheck, IsJob, line_of, default_out}
+use Rattle.ato_words.specs.Words.{is_entry, IsBuildOf, IsBuild, IsCheckOf, IsCheck, IsJob, default_out}
+use Rattle.ato_words.specs.WordLines.{line_of}
+use Rattle.ato_words.proofs.WordLineLaws.{build_read, check_read}
 use Rattle.ato_words.specs.declared.words.Build.{Build}
 use Rattle.ato_words.specs.declared.words.Check.{Check}
 use Rattle.ato_words.specs.declared.words.Task.{Task}
@@ -61,7 +63,7 @@ one_build_of words out a b p q =
 
 -- Words are a build in one way.
 pub one_build : (words : List (List ℕ)) (a b : Build) → IsBuild words a → IsBuild words b → a ≡ b
-one_build words a b p q = one_build_of (line_of words).positional (unwrap_or (line_of words).out default_out) a b p.of q.of
+one_build words a b p q = one_build_of (line_of words).positional (unwrap_or (line_of words).out default_out) a b (build_read words a p).of (build_read words b q).of
 
 -- a check of its fields
 abbrev check_of : List ℕ → List ℕ → List ℕ → List ℕ → Check
@@ -82,12 +84,12 @@ one_check_of words a b p q =
 
 -- Words are a check in one way.
 pub one_check : (words : List (List ℕ)) (a b : Check) → IsCheck words a → IsCheck words b → a ≡ b
-one_check words a b p q = one_check_of (line_of words).positional a b p.of q.of
+one_check words a b p q = one_check_of (line_of words).positional a b (check_read words a p).of (check_read words b q).of
 
 -- Words are never both a build and a check: their first word differs.
 pub build_no_check : (words : List (List ℕ)) (build : Build) (check : Check) → IsBuild words build → IsCheck words check → ⊥
 build_no_check words build check p q =
-    let both : codes "build" ∷ (build.file ++ 58 ∷ build.block) ∷ build.catalogue ∷ [] ≡ codes "check" ∷ (check.file ++ 58 ∷ check.block) ∷ check.catalogue ∷ check.cert ∷ [] = sym p.of.words_are ∙ q.of.words_are in
+    let both : codes "build" ∷ (build.file ++ 58 ∷ build.block) ∷ build.catalogue ∷ [] ≡ codes "check" ∷ (check.file ++ 58 ∷ check.block) ∷ check.catalogue ∷ check.cert ∷ [] = sym (build_read words build p).of.words_are ∙ (check_read words check q).of.words_are in
     let commands : codes "build" ≡ codes "check" = cc in
     let bad : ⊥ = cc in bad
 

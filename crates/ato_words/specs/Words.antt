@@ -1,14 +1,9 @@
 -- The words of the command line, and the task that they are.
-use Rattle.std.specs.Prelude.{◌≡◌, ℕ, Bool, true, false, ◌&&◌, ◌||◌, not, ◌==◌, if◌then◌else◌, List, [], ◌∷◌, ◌++◌, codes, map, fold, drop, string_bytes, String, Some, None, is_some, unwrap_or}
-use Rattle.std.specs.Bool.{nat_eq}
-use Rattle.std.specs.List.{list_any, starts_with}
-use Rattle.std.specs.Str.{bytes_eq}
+use Rattle.std.specs.Prelude.{◌≡◌, ℕ, Bool, true, false, ◌&&◌, not, ◌==◌, List, [], ◌∷◌, ◌++◌, codes, map, string_bytes, String, Option, Some, None, unwrap_or}
+use Rattle.std.specs.List.{list_any}
 use Rattle.std.specs.declared.alloc.Global.{Global}
 use Rattle.ato_base.specs.Names.{is_name}
 use Rattle.ato_words.specs.PlainNames.{is_plain, is_put}
-use Rattle.ato_words.specs.declared.word_line.Turn.{Turn}
-use Rattle.ato_words.specs.declared.word_line.Turn.TheVariants.{Any, Value, Positional, Refused}
-use Rattle.ato_words.specs.declared.word_line.WordLine.{WordLine}
 use Rattle.ato_words.specs.declared.words.Build.{Build}
 use Rattle.ato_words.specs.declared.words.Check.{Check}
 use Rattle.ato_words.specs.declared.words.Task.{Task}
@@ -22,51 +17,22 @@ abbrev pub begins_with_dash : List ℕ → Bool
 begins_with_dash [] = false
 begins_with_dash (b ∷ bs) = b == 45
 
--- ---- the words from left to right
+-- ---- the words and their options
 
--- before the first word
-abbrev pub no_words : WordLine
-no_words = record { turn = Any; positional = []; out = None }
+-- The words are positional ones, in their order, with options between them, each `--out VALUE` or `--out=VALUE`, whose
+-- values stand apart in their order. Behind a word `--` every word is positional. No positional word and no value begins
+-- with a dash.
+pub data AreTold : List (List ℕ) → List (List ℕ) → List (List ℕ) → Type 0 where
+  no_words : AreTold [] [] []
+  positional : {w : List ℕ} {ws ps vs : List (List ℕ)} → begins_with_dash w ≡ false → AreTold ws ps vs → AreTold (w ∷ ws) (w ∷ ps) vs
+  value_apart : {v : List ℕ} {ws ps vs : List (List ℕ)} → begins_with_dash v ≡ false → AreTold ws ps vs → AreTold (codes "--out" ∷ v ∷ ws) ps (v ∷ vs)
+  value_joined : {v : List ℕ} {ws ps vs : List (List ℕ)} → begins_with_dash v ≡ false → AreTold ws ps vs → AreTold ((codes "--out=" ++ v) ∷ ws) ps (v ∷ vs)
+  all_positional : {ws : List (List ℕ)} → list_any begins_with_dash ws ≡ false → AreTold (codes "--" ∷ ws) ws []
 
--- the same words, with another turn for the next one
-abbrev pub turned : WordLine → Turn → WordLine
-turned line turn = record { turn = turn; positional = line.positional; out = line.out }
-
--- after a positional word, which begins with no dash
-abbrev pub with_word : WordLine → List ℕ → WordLine
-with_word line word = if begins_with_dash word then turned line Refused else record { turn = line.turn; positional = line.positional ++ word ∷ []; out = line.out }
-
--- after the value of `--out`, which begins with no dash and is given once
-abbrev pub with_out : WordLine → List ℕ → WordLine
-with_out line value = if begins_with_dash value || is_some line.out then turned line Refused else record { turn = Any; positional = line.positional; out = Some value }
-
--- after a word that may be an option
-abbrev pub with_any : WordLine → List ℕ → WordLine
-with_any line word =
-    if bytes_eq word (codes "--") then turned line Positional
-    else (if bytes_eq word (codes "--out") then turned line Value
-    else (if starts_with nat_eq word (codes "--out=") then with_out line (drop 6 word) else with_word line word))
-
--- after a word, by its turn
-abbrev pub by_turn : Turn → WordLine → List ℕ → WordLine
-by_turn Any line word = with_any line word
-by_turn Value line word = with_out line word
-by_turn Positional line word = with_word line word
-by_turn Refused line word = line
-
-abbrev pub next_line : WordLine → List ℕ → WordLine
-next_line line word = by_turn line.turn line word
-
--- the words, told apart from left to right
-abbrev pub line_of : List (List ℕ) → WordLine
-line_of words = fold next_line no_words words
-
--- No word was refused, and no option lacks its value.
-abbrev pub is_read : Turn → Bool
-is_read Any = true
-is_read Value = false
-is_read Positional = true
-is_read Refused = false
+-- the values of an option that is given at most once
+abbrev pub values_of : Option (List ℕ) → List (List ℕ)
+values_of None = []
+values_of (Some value) = value ∷ []
 
 -- ---- the task
 
@@ -91,10 +57,12 @@ pub record IsBuildOf (positional : List (List ℕ)) (out : List ℕ) (build : Bu
 abbrev pub default_out : List ℕ
 default_out = codes "out"
 
--- The words are this build.
+-- The words are this build, with the option at most once.
 pub record IsBuild (words : List (List ℕ)) (build : Build) : Type 0 where
-  pub read : is_read (line_of words).turn ≡ true
-  pub of : IsBuildOf (line_of words).positional (unwrap_or (line_of words).out default_out) build
+  pub positional : List (List ℕ)
+  pub out : Option (List ℕ)
+  pub told : AreTold words positional (values_of out)
+  pub of : IsBuildOf positional (unwrap_or out default_out) build
 
 -- The positional words are `check ENTRY CATALOGUE CERT`, with an entry like a build's and two plain names.
 pub record IsCheckOf (positional : List (List ℕ)) (check : Check) : Type 0 where
@@ -105,9 +73,9 @@ pub record IsCheckOf (positional : List (List ℕ)) (check : Check) : Type 0 whe
 
 -- The words are this check, which has no option.
 pub record IsCheck (words : List (List ℕ)) (check : Check) : Type 0 where
-  pub read : is_read (line_of words).turn ≡ true
-  pub no_option : (line_of words).out ≡ None
-  pub of : IsCheckOf (line_of words).positional check
+  pub positional : List (List ℕ)
+  pub told : AreTold words positional []
+  pub of : IsCheckOf positional check
 
 -- The words are this task.
 abbrev pub IsJob : List (List ℕ) → Task → Type 0

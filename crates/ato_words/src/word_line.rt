@@ -2,7 +2,8 @@
 ghost use Rattle.std.specs.Prelude.{◌≡◌, ◌==◌, drop, codes, fold, IfOk, MatchOption, true, false};
 ghost use Rattle.std.specs.Bool.{nat_eq};
 ghost use Rattle.std.specs.List.{starts_with};
-ghost use Rattle.ato_words.specs.Words.{begins_with_dash, no_words, turned, with_word, with_out, with_any, next_line, line_of, is_read, texts};
+ghost use Rattle.ato_words.specs.Words.{begins_with_dash, texts};
+ghost use Rattle.ato_words.specs.WordLines.{no_words, turned, with_word, with_out, with_any, next_line, line_of, is_read};
 
 use ato_base::{List, NoMemory, Text};
 use std::alloc::Global;

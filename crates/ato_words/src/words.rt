@@ -1,6 +1,8 @@
 //! The task that the words of the command line are.
 ghost use Rattle.std.specs.Prelude.{◌≡◌, IfOk, IfSome, IfNone};
 ghost use Rattle.ato_words.specs.Words.{IsJob, IsNoJob, texts};
+ghost use Rattle.ato_words.specs.WordLines.{line_of, IsTaskLine};
+ghost use Rattle.ato_words.specs.declared.words.Task.{Task};
 
 use crate::builds::{build_of, out_of};
 use crate::checks::check_of;
@@ -37,16 +39,16 @@ pub enum Task {
     Check(Check),
 }
 
-/// The task that the words are, where they are one.
-pub fn job(alloc: Global, words: &Vec<String>) -> Result<Option<Task>, NoMemory>
-    ensures some { IfOk result (λ found. IfSome found (λ task. IsJob (texts words.now.items) task)) }
-    ensures none { IfOk result (λ found. IfNone found (IsNoJob (texts words.now.items))) }
+/// The task that the words are from left to right, where they are one.
+fn task_of(alloc: Global, words: &[String]) -> Result<Option<Task>, NoMemory>
+    ensures some { IfOk result (λ found. IfSome found (IsTaskLine (line_of (texts words.now)))) }
+    ensures none { IfOk result (λ found. IfNone found ((task : Task) → IsTaskLine (line_of (texts words.now)) task → ⊥)) }
 {
     let WordLine {
         turn,
         positional,
         out,
-    } = read_words(alloc, words.as_slice())?;
+    } = read_words(alloc, words)?;
     if !turn.is_read() {
         return Ok(None);
     }
@@ -62,4 +64,12 @@ pub fn job(alloc: Global, words: &Vec<String>) -> Result<Option<Task>, NoMemory>
         None => Ok(None),
         Some(check) => Ok(Some(Task::Check(check))),
     }
+}
+
+/// The task that the words are, where they are one.
+pub fn job(alloc: Global, words: &Vec<String>) -> Result<Option<Task>, NoMemory>
+    ensures some { IfOk result (λ found. IfSome found (λ task. IsJob (texts words.now.items) task)) }
+    ensures none { IfOk result (λ found. IfNone found (IsNoJob (texts words.now.items))) }
+{
+    task_of(alloc, words.as_slice())
 }
