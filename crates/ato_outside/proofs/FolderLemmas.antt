@@ -2,6 +2,7 @@ use Rattle.std.proofs.Common.{◌≡◌, ℕ, ◌-◌, ◌≤◌, ◌<◌, List,
 use Rattle.std.specs.Io.KnownBytes.{Consumes, Appends}
 use Rattle.std.proofs.KnownBytes.{Consumes-trans, Appends-trans}
 use Rattle.std.proofs.lemmas.List.{length-take-le}
+use lib.Seq.{take-append_seam}
 
 -- a reader that gave more bytes than there is room for had more than the limit
 pub long_by_more : (old mid new : Option (List ℕ)) (bytes piece : List ℕ) (count limit : ℕ) → Consumes old mid bytes → Consumes mid new (take count piece)
@@ -28,3 +29,7 @@ wrote_more old mid new all done rest next count split gave then is = (
   split ∙ ap (λ l. done ++ l) (sym (take-append-drop count rest)) ∙ sym (append_assoc done (take count rest) (drop count rest)) ∙ ap (λ l. (done ++ take count rest) ++ l) (sym is),
   Appends-trans old mid new done (take count rest) gave then,
 )
+
+-- what was written so far is the first of all the bytes
+pub wrote_first : (old new : Option (List ℕ)) (all done rest : List ℕ) → all ≡ done ++ rest → Appends old new done → (n : ℕ) × Appends old new (take n all)
+wrote_first old new all done rest split gave = (length done, subst (Appends old new) (sym (ap (take (length done)) split ∙ take-append_seam done rest)) gave)

@@ -1,23 +1,40 @@
-use Rattle.std.specs.Prelude.{ℕ, List, refl}
+use Rattle.std.specs.Prelude.{ℕ, Bool, true, false, List, take, Option, Result, Ok, Err, refl}
 use Rattle.std.specs.Coded.{Coded, code_by, coded×, coded_list, coded_ℕ}
+use Rattle.std.specs.Io.KnownBytes.{Appends}
+use Rattle.ato_outside.specs.declared.system.OpenError.{OpenError}
 
--- what is told of a real folder as a shelf: its path, how many calls failed, and how many missed
-pub record FolderShelf : Type 0 where
+-- what is told of a real folder as a shelf: the system that it asks, its path, how many calls failed, and how many missed
+pub record FolderShelf (S : Type 0) : Type 0 where
+  pub system : S
   pub folder : List ℕ
   pub faults : ℕ
   pub misses : ℕ
 
 -- such a shelf is stored as the tuple of its parts
-abbrev pub folder_shelf_code : Coded FolderShelf
-folder_shelf_code =
-    code_by (List ℕ × (ℕ × ℕ)) (coded× (coded_list coded_ℕ) (coded× coded_ℕ coded_ℕ)) (λ s. (s.folder, (s.faults, s.misses))) (λ p. record { folder = p.0; faults = p.1.0; misses = p.1.1 }) (λ _. refl)
+abbrev pub folder_shelf_code : {S : Type 0} → Coded S → Coded (FolderShelf S)
+folder_shelf_code {S} of_system =
+    code_by (S × (List ℕ × (ℕ × ℕ))) (coded× of_system (coded× (coded_list coded_ℕ) (coded× coded_ℕ coded_ℕ)))
+    (λ s. (s.system, (s.folder, (s.faults, s.misses))))
+    (λ p. record { system = p.0; folder = p.1.0; faults = p.1.1.0; misses = p.1.1.1 })
+    (λ _. refl)
 
--- what is told of a real folder as a tray: its path, and how many calls failed
-pub record FolderTray : Type 0 where
+-- what is told of a real folder as a tray: the system that it asks, its path, and how many calls failed
+pub record FolderTray (S : Type 0) : Type 0 where
+  pub system : S
   pub folder : List ℕ
   pub faults : ℕ
 
--- such a tray is stored as the pair of its parts
-abbrev pub folder_tray_code : Coded FolderTray
-folder_tray_code =
-    code_by (List ℕ × ℕ) (coded× (coded_list coded_ℕ) coded_ℕ) (λ t. (t.folder, t.faults)) (λ p. record { folder = p.0; faults = p.1 }) (λ _. refl)
+-- such a tray is stored as the tuple of its parts
+abbrev pub folder_tray_code : {S : Type 0} → Coded S → Coded (FolderTray S)
+folder_tray_code {S} of_system =
+    code_by (S × (List ℕ × ℕ)) (coded× of_system (coded× (coded_list coded_ℕ) coded_ℕ)) (λ t. (t.system, (t.folder, t.faults))) (λ p. record { system = p.0; folder = p.1.0; faults = p.1.1 }) (λ _. refl)
+
+-- A file was created at the path, took the bytes after what it held, and was closed, and nothing else was done.
+abbrev pub WritesFile : {S F : Type 0} → (S → List ℕ → Result F OpenError → S → Type 0) → (S → F → S → Type 0) → (F → Option (List ℕ)) → S → List ℕ → List ℕ → S → Type 0
+WritesFile {S} {F} creates closes contents before path bytes after =
+    (fresh full : F) × (between : S) × creates before path (Ok fresh) between × Appends (contents fresh) (contents full) bytes × closes between full after
+
+-- What a write that failed did: the path was refused, or its file took only the first of the bytes.
+abbrev pub StopsWriting : {S F : Type 0} → (S → List ℕ → Result F OpenError → S → Type 0) → (S → F → S → Type 0) → (F → Option (List ℕ)) → S → List ℕ → List ℕ → S → Bool → Type 0
+StopsWriting {S} {F} creates closes contents before path bytes after true = (n : ℕ) × WritesFile creates closes contents before path (take n bytes) after
+StopsWriting {S} {F} creates closes contents before path bytes after false = (why : OpenError) × creates before path (Err why) after

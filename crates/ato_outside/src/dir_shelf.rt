@@ -1,45 +1,45 @@
-ghost use Rattle.std.specs.Prelude.{◌≡◌, ◌≤◌, ◌<◌, length, IfSome, IsErrOf};
+ghost use Rattle.std.specs.Prelude.{◌≡◌, ◌≢◌, ◌≤◌, ◌<◌, length, Ok, Err, IfSome, IsErrOf, Result};
+ghost use Rattle.std.specs.Path.{path_join};
+ghost use Rattle.ato_outside.specs.declared.system.OpenError.{OpenError};
 ghost use Rattle.ato_outside.specs.Causes.{Counts};
 ghost use Rattle.ato_outside.specs.Shelf.{IsAnswer, Fits};
 
-use crate::{Got, Shelf, ShelfError};
-use std::fs;
+use crate::{Got, OpenError, Shelf, ShelfError, System};
 use std::io::{ErrorKind, Read};
 use std::marker::Model;
 use std::path::Path;
-use std::rt::Files;
 
 /// A real folder, whose files it tells nothing of.
 ///
-/// Contracts see it as its path and its counts of faults and misses.
+/// Contracts see it as the system that it asks, its path and its counts of faults and misses.
 #[derive(Drop)]
-pub struct DirShelf<'a, R: Files> {
-    rt: &'a R,
+pub struct DirShelf<'a, S: System> {
+    system: S,
     folder: &'a str,
     faults: u64,
     misses: u64,
 }
 
-impl<'a, R: Files> Model for DirShelf<'a, R> {
+impl<'a, S: System> Model for DirShelf<'a, S> {
     ghost use Rattle.ato_outside.specs.Folder.{FolderShelf, folder_shelf_code};
 
-    ghost Value = { FolderShelf };
+    ghost Value = { FolderShelf S };
 
-    ghost coded = { folder_shelf_code };
+    ghost coded = { folder_shelf_code S.code };
 
-    ghost view = { λ it. record { folder = it.folder.now; faults = it.faults; misses = it.misses } };
+    ghost view = { λ it. record { system = it.system; folder = it.folder.now; faults = it.faults; misses = it.misses } };
 }
 
-impl<'a, R: Files> DirShelf<'a, R> {
-    /// The shelf of a folder. It takes no memory and reads nothing.
+impl<'a, S: System> DirShelf<'a, S> {
+    /// The shelf of a folder of a system. It takes no memory and reads nothing.
     ///
     /// A call answers Missing only where the system says that there is no such file. Every other
     /// error is a fault.
-    pub fn new(rt: &'a R, folder: &'a str) -> DirShelf<'a, R>
-        ensures { result ≡ record { folder = folder.now; faults = 0; misses = 0 } }
+    pub fn new(system: S, folder: &'a str) -> DirShelf<'a, S>
+        ensures { result ≡ record { system = system; folder = folder.now; faults = 0; misses = 0 } }
     {
         DirShelf {
-            rt,
+            system,
             folder,
             faults: 0,
             misses: 0,
@@ -71,6 +71,7 @@ pub(crate) fn read_all<F: Read>(
     ensures told { IfSome (F.remaining file.old)
         (λ rest. IsAnswer (Some rest) limit result into.new.items) }
     ensures room { length into.new.items ≤ limit }
+    ensures read { result ≢ Ok Got.Missing }
 {
     into.clear();
     let mut piece = [0u8; 4096];
@@ -96,34 +97,31 @@ pub(crate) fn read_all<F: Read>(
 }
 
 /// Opens a file of the folder and reads it.
-fn read_file<R: Files>(
-    rt: &R,
+fn read_file<S: System>(
+    system: &mut S,
     folder: &str,
     name: &str,
     limit: usize,
     into: &mut Vec<u8>,
 ) -> Result<Got, ShelfError>
     ensures room { result ≡ Ok Got.Whole → length into.new.items ≤ limit }
-    ensures whole { result ≡ Ok Got.Whole → (file : R.File) × IfSome (R.File.remaining file) (λ rest. into.new.items ≡ rest) }
-    ensures too_long { result ≡ Ok Got.TooLong → (file : R.File) × IfSome (R.File.remaining file) (λ rest. limit < length rest) }
+    ensures whole { result ≡ Ok Got.Whole → (file : S.File) × S.opens system.old (path_join folder.now name.now) (Ok file) system.new × IfSome (S.File.remaining file) (λ rest. into.new.items ≡ rest) }
+    ensures too_long { result ≡ Ok Got.TooLong → (file : S.File) × S.opens system.old (path_join folder.now name.now) (Ok file) system.new × IfSome (S.File.remaining file) (λ rest. limit < length rest) }
+    ensures missing { result ≡ Ok Got.Missing → S.opens system.old (path_join folder.now name.now) (Err OpenError.Missing) system.new }
+    ensures failed { result ≡ Err ShelfError.Failed → (answer : Result S.File OpenError) × S.opens system.old (path_join folder.now name.now) answer system.new × (answer ≢ Err OpenError.Missing) }
 {
     let alloc = *into.allocator();
     let Ok(path) = Path::new(folder).join(alloc, name) else {
         return Err(ShelfError::NoMemory);
     };
-    match fs::open(rt, path) {
+    match system.open(path.as_str()) {
         Ok(mut file) => read_all(&mut file, limit, into),
-        Err(error) => {
-            if error.kind() == ErrorKind::NotFound {
-                Ok(Got::Missing)
-            } else {
-                Err(ShelfError::Failed)
-            }
-        }
+        Err(OpenError::Missing) => Ok(Got::Missing),
+        Err(OpenError::Refused) => Err(ShelfError::Failed),
     }
 }
 
-impl<'a, R: Files> Shelf for DirShelf<'a, R> {
+impl<'a, S: System> Shelf for DirShelf<'a, S> {
     ghost use Rattle.std.specs.Prelude.{None};
 
     ghost files = { λ _. None };
@@ -137,11 +135,15 @@ impl<'a, R: Files> Shelf for DirShelf<'a, R> {
         ensures faults { Counts self.old.faults self.new.faults (IsErrOf result ShelfError.Failed) }
         ensures misses { Counts self.old.misses self.new.misses (result ≡ Ok Got.Missing) }
         ensures folder { self.new.folder ≡ self.old.folder }
-        // Whole and too long are answers about a file of the system: the bytes are its own, or it has too many.
-        ensures whole { result ≡ Ok Got.Whole → (file : R.File) × IfSome (R.File.remaining file) (λ rest. into.new.items ≡ rest) }
-        ensures too_long { result ≡ Ok Got.TooLong → (file : R.File) × IfSome (R.File.remaining file) (λ rest. limit < length rest) }
+        // Whole and too long are answers about the file that this call opened at the path of the name: the bytes are its
+        // own, or it has too many. Missing is what the system answered there.
+        ensures whole { result ≡ Ok Got.Whole → (file : S.File) × S.opens self.old.system (path_join self.old.folder name.now) (Ok file) self.new.system × IfSome (S.File.remaining file) (λ rest. into.new.items ≡ rest) }
+        ensures too_long { result ≡ Ok Got.TooLong → (file : S.File) × S.opens self.old.system (path_join self.old.folder name.now) (Ok file) self.new.system × IfSome (S.File.remaining file) (λ rest. limit < length rest) }
+        ensures missing { result ≡ Ok Got.Missing → S.opens self.old.system (path_join self.old.folder name.now) (Err OpenError.Missing) self.new.system }
+        // Only after the path was asked for and was not missing is the call a failure.
+        ensures failed { result ≡ Err ShelfError.Failed → (answer : Result S.File OpenError) × S.opens self.old.system (path_join self.old.folder name.now) answer self.new.system × (answer ≢ Err OpenError.Missing) }
     {
-        let answer = read_file(self.rt, self.folder, name, limit, into);
+        let answer = read_file(&mut self.system, self.folder, name, limit, into);
         match answer {
             Ok(Got::Whole) => return Ok(Got::Whole),
             Ok(Got::Missing) => self.misses = self.misses.saturating_add(1),

@@ -1,47 +1,47 @@
-ghost use Rattle.std.specs.Prelude.{◌≡◌, IsErrOf, OnOk};
-ghost use Rattle.ato_outside.specs.Causes.{Counts};
+ghost use Rattle.std.specs.Prelude.{◌≡◌, ℕ, Bool, false, take, Err, IsErrOf, OnOk};
 ghost use Rattle.std.specs.Bool.{OnTrue};
+ghost use Rattle.std.specs.Path.{path_join};
 ghost use Rattle.std.specs.Io.KnownBytes.{Appends};
+ghost use Rattle.ato_outside.specs.Causes.{Counts};
+ghost use Rattle.ato_outside.specs.Folder.{WritesFile, StopsWriting};
 
-use crate::{Tray, TrayError};
+use crate::{System, Tray, TrayError};
 use std::alloc::Global;
-use std::fs;
 use std::io::{ErrorKind, Write};
 use std::marker::Model;
 use std::path::Path;
-use std::rt::Files;
 
 /// A real folder, whose files it tells nothing of. It keeps an allocator for its paths.
 ///
-/// Contracts see it as its path and its count of faults.
+/// Contracts see it as the system that it asks, its path and its count of faults.
 #[derive(Drop)]
-pub struct DirTray<'a, R: Files> {
+pub struct DirTray<'a, S: System> {
     alloc: Global,
-    rt: &'a R,
+    system: S,
     folder: &'a str,
     faults: u64,
 }
 
-impl<'a, R: Files> Model for DirTray<'a, R> {
+impl<'a, S: System> Model for DirTray<'a, S> {
     ghost use Rattle.ato_outside.specs.Folder.{FolderTray, folder_tray_code};
 
-    ghost Value = { FolderTray };
+    ghost Value = { FolderTray S };
 
-    ghost coded = { folder_tray_code };
+    ghost coded = { folder_tray_code S.code };
 
-    ghost view = { λ it. record { folder = it.folder.now; faults = it.faults } };
+    ghost view = { λ it. record { system = it.system; folder = it.folder.now; faults = it.faults } };
 }
 
-impl<'a, R: Files> DirTray<'a, R> {
-    /// The tray of a folder. It takes no memory and writes nothing.
+impl<'a, S: System> DirTray<'a, S> {
+    /// The tray of a folder of a system. It takes no memory and writes nothing.
     ///
     /// A failure of any kind is a fault. Where there is no memory for a path, nothing is touched.
-    pub fn new(alloc: Global, rt: &'a R, folder: &'a str) -> DirTray<'a, R>
-        ensures { result ≡ record { folder = folder.now; faults = 0 } }
+    pub fn new(alloc: Global, system: S, folder: &'a str) -> DirTray<'a, S>
+        ensures { result ≡ record { system = system; folder = folder.now; faults = 0 } }
     {
         DirTray {
             alloc,
-            rt,
+            system,
             folder,
             faults: 0,
         }
@@ -58,7 +58,8 @@ impl<'a, R: Files> DirTray<'a, R> {
 /// Writes all of the bytes, and answers whether it could. A write that was interrupted is tried
 /// again; every other error is a failure, and so is a write of no byte.
 pub(crate) fn write_all<F: Write>(file: &mut F, bytes: &[u8]) -> bool
-    ensures { OnTrue result (Appends (F.contents file.old) (F.contents file.new) bytes.now) }
+    ensures all { OnTrue result (Appends (F.contents file.old) (F.contents file.new) bytes.now) }
+    ensures first { (n : ℕ) × Appends (F.contents file.old) (F.contents file.new) (take n bytes.now) }
 {
     let mut rest = bytes;
     for _ in 0..u64::MAX {
@@ -78,7 +79,22 @@ pub(crate) fn write_all<F: Write>(file: &mut F, bytes: &[u8]) -> bool
     false
 }
 
-impl<'a, R: Files> Tray for DirTray<'a, R> {
+/// Creates a file, writes all of the bytes to it and closes it, and answers whether it could.
+fn write_file<S: System>(system: &mut S, path: &str, bytes: &[u8]) -> bool
+    ensures wrote { OnTrue result (WritesFile S.creates S.closes S.File.contents system.old path.now bytes.now system.new) }
+    ensures failed { result ≡ false → (opened : Bool) × StopsWriting S.creates S.closes S.File.contents system.old path.now bytes.now system.new opened }
+{
+    match system.create(path) {
+        Ok(mut file) => {
+            let written = write_all(&mut file, bytes);
+            system.close(file);
+            written
+        }
+        Err(_) => false,
+    }
+}
+
+impl<'a, S: System> Tray for DirTray<'a, S> {
     ghost use Rattle.std.specs.Prelude.{None};
 
     ghost files = { λ _. None };
@@ -88,17 +104,17 @@ impl<'a, R: Files> Tray for DirTray<'a, R> {
     fn put(&mut self, name: &str, bytes: &[u8]) -> Result<(), TrayError>
         ensures faults { Counts self.old.faults self.new.faults (IsErrOf result TrayError.Failed) }
         ensures folder { self.new.folder ≡ self.old.folder }
-        // Only where a file of the system took all of the bytes is the put answered as done.
-        ensures wrote { OnOk result ((before now : R.File) × Appends (R.File.contents before) (R.File.contents now) bytes.now) }
+        // Only where the file that this call created at the path of the name took all of the bytes and was closed is the put
+        // answered as done.
+        ensures wrote { OnOk result (WritesFile S.creates S.closes S.File.contents self.old.system (path_join self.old.folder name.now) bytes.now self.new.system) }
+        // Only where the path was refused, or its file took only the first of the bytes, is it a failure.
+        ensures failed { result ≡ Err TrayError.Failed → (opened : Bool) × StopsWriting S.creates S.closes S.File.contents self.old.system (path_join self.old.folder name.now) bytes.now self.new.system opened }
+        ensures untouched { result ≡ Err TrayError.NoMemory → self.new.system ≡ self.old.system }
     {
         let Ok(path) = Path::new(self.folder).join(self.alloc, name) else {
             return Err(TrayError::NoMemory);
         };
-        let written = match fs::create(self.rt, path) {
-            Ok(mut file) => write_all(&mut file, bytes),
-            Err(_) => false,
-        };
-        if written {
+        if write_file(&mut self.system, path.as_str(), bytes) {
             return Ok(());
         }
         self.faults = self.faults.saturating_add(1);

@@ -21,6 +21,7 @@ mod shelf;
 mod sink;
 mod sure_shelf;
 mod sure_tray;
+mod system;
 #[cfg(test)]
 mod tests;
 mod tray;
@@ -35,4 +36,5 @@ pub use shelf::{Got, Shelf, ShelfError};
 pub use sink::{Sink, SinkFailed};
 pub use sure_shelf::SureShelf;
 pub use sure_tray::SureTray;
+pub use system::{OpenError, System};
 pub use tray::{Tray, TrayError};

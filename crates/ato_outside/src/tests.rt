@@ -116,6 +116,43 @@ fn a_real_folder_gives_back_what_was_put(rt: HostRuntime) -> Result<(), Fail> {
     Ok(())
 }
 
+/// So many bytes, which repeat only after a length that divides no piece of a read.
+fn long_bytes(alloc: Global, length: usize) -> Result<Vec<u8>, NoMemory> {
+    let mut bytes = Vec::new(alloc);
+    let mut next = 1u8;
+    for _ in 0..length {
+        bytes.push(next)?;
+        next = if next == 251 { 1 } else { next.wrapping_add(1) };
+    }
+    Ok(bytes)
+}
+
+/// Each file but the first is put in place of a longer one, and some are longer than one read.
+#[test]
+fn a_real_folder_gives_back_every_byte(rt: HostRuntime) -> Result<(), Fail> {
+    let alloc = rt.alloc();
+    let folder = env::temp_dir(&rt)?;
+    let name = "ato_outside_every_byte.txt";
+    let path = folder.join(alloc, name)?;
+    let mut tray = DirTray::new(alloc, &rt, folder.as_str());
+    let mut shelf = DirShelf::new(&rt, folder.as_str());
+    let mut into = Vec::new(alloc);
+    for length in [20_481usize, 8_193, 8_192, 4_097, 4_096, 4_095, 5, 1, 0] {
+        let bytes = long_bytes(alloc, length)?;
+        assert_eq!(rt; tray.put(name, bytes.as_slice()), Ok(()));
+        let held = fs::read(&rt, path.as_str())?;
+        assert!(rt; held.as_slice() == bytes.as_slice());
+        assert_eq!(rt; shelf.get(name, length, &mut into), Ok(Got::Whole));
+        assert!(rt; into.as_slice() == bytes.as_slice());
+        if length > 0 {
+            assert_eq!(rt; shelf.get(name, length - 1, &mut into), Ok(Got::TooLong));
+        }
+    }
+    assert_eq!(rt; (tray.faults(), shelf.faults(), shelf.misses()), (0, 0, 0));
+    fs::remove_file(&rt, path.as_str())?;
+    Ok(())
+}
+
 #[test]
 fn standard_output_takes_a_line(rt: HostRuntime) {
     let mut sink = OutSink::new(&rt);
