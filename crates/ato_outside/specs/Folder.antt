@@ -1,7 +1,8 @@
-use Rattle.std.specs.Prelude.{ℕ, Bool, true, false, List, take, Option, Result, Ok, Err, refl}
+use Rattle.std.specs.Prelude.{◌≢◌, ◌⊎◌, ℕ, List, take, Option, Result, Ok, Err, IfSome, refl}
 use Rattle.std.specs.Coded.{Coded, code_by, coded×, coded_list, coded_ℕ}
 use Rattle.std.specs.Io.KnownBytes.{Appends}
 use Rattle.ato_outside.specs.declared.system.OpenError.{OpenError}
+use Rattle.ato_outside.specs.declared.system.OpenError.TheVariants.{Missing}
 
 -- what is told of a real folder as a shelf: the system that it asks, its path, how many calls failed, and how many missed
 pub record FolderShelf (S : Type 0) : Type 0 where
@@ -29,12 +30,20 @@ abbrev pub folder_tray_code : {S : Type 0} → Coded S → Coded (FolderTray S)
 folder_tray_code {S} of_system =
     code_by (S × (List ℕ × ℕ)) (coded× of_system (coded× (coded_list coded_ℕ) coded_ℕ)) (λ t. (t.system, (t.folder, t.faults))) (λ p. record { system = p.0; folder = p.1.0; faults = p.1.1 }) (λ _. refl)
 
--- A file was created at the path, took the bytes after what it held, and was closed, and nothing else was done.
+-- A file was opened at the path, and this holds of what it had left, where the file tells it. Nothing else was done.
+abbrev pub ReadsFile : {S F : Type 0} → (S → List ℕ → Result F OpenError → S → Type 0) → (F → Option (List ℕ)) → S → List ℕ → S → (List ℕ → Type 0) → Type 0
+ReadsFile {S} {F} opens remaining before path after Held = (file : F) × opens before path (Ok file) after × IfSome (remaining file) Held
+
+-- What a read that failed did: it opened the path or was refused there, and the path was not missing.
+abbrev pub StopsReading : {S F : Type 0} → (S → List ℕ → Result F OpenError → S → Type 0) → S → List ℕ → S → Type 0
+StopsReading {S} {F} opens before path after = (answer : Result F OpenError) × opens before path answer after × (answer ≢ Err Missing)
+
+-- A file was created at the path, took the bytes after what it held, and was closed. Nothing else was done.
 abbrev pub WritesFile : {S F : Type 0} → (S → List ℕ → Result F OpenError → S → Type 0) → (S → F → S → Type 0) → (F → Option (List ℕ)) → S → List ℕ → List ℕ → S → Type 0
 WritesFile {S} {F} creates closes contents before path bytes after =
     (fresh full : F) × (between : S) × creates before path (Ok fresh) between × Appends (contents fresh) (contents full) bytes × closes between full after
 
--- What a write that failed did: the path was refused, or its file took only the first of the bytes.
-abbrev pub StopsWriting : {S F : Type 0} → (S → List ℕ → Result F OpenError → S → Type 0) → (S → F → S → Type 0) → (F → Option (List ℕ)) → S → List ℕ → List ℕ → S → Bool → Type 0
-StopsWriting {S} {F} creates closes contents before path bytes after true = (n : ℕ) × WritesFile creates closes contents before path (take n bytes) after
-StopsWriting {S} {F} creates closes contents before path bytes after false = (why : OpenError) × creates before path (Err why) after
+-- What a write that failed did: its file took only the first of the bytes and was closed, or the path was refused.
+abbrev pub StopsWriting : {S F : Type 0} → (S → List ℕ → Result F OpenError → S → Type 0) → (S → F → S → Type 0) → (F → Option (List ℕ)) → S → List ℕ → List ℕ → S → Type 0
+StopsWriting {S} {F} creates closes contents before path bytes after =
+    ((n : ℕ) × WritesFile creates closes contents before path (take n bytes) after) ⊎ ((why : OpenError) × creates before path (Err why) after)

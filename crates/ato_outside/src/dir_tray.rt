@@ -1,4 +1,4 @@
-ghost use Rattle.std.specs.Prelude.{◌≡◌, ℕ, Bool, false, take, Err, IsErrOf, OnOk};
+ghost use Rattle.std.specs.Prelude.{◌≡◌, ℕ, false, take, IsErrOf, OnOk};
 ghost use Rattle.std.specs.Bool.{OnTrue};
 ghost use Rattle.std.specs.Path.{path_join};
 ghost use Rattle.std.specs.Io.KnownBytes.{Appends};
@@ -82,7 +82,7 @@ pub(crate) fn write_all<F: Write>(file: &mut F, bytes: &[u8]) -> bool
 /// Creates a file, writes all of the bytes to it and closes it, and answers whether it could.
 fn write_file<S: System>(system: &mut S, path: &str, bytes: &[u8]) -> bool
     ensures wrote { OnTrue result (WritesFile S.creates S.closes S.File.contents system.old path.now bytes.now system.new) }
-    ensures failed { result ≡ false → (opened : Bool) × StopsWriting S.creates S.closes S.File.contents system.old path.now bytes.now system.new opened }
+    ensures failed { result ≡ false → StopsWriting S.creates S.closes S.File.contents system.old path.now bytes.now system.new }
 {
     match system.create(path) {
         Ok(mut file) => {
@@ -108,7 +108,7 @@ impl<'a, S: System> Tray for DirTray<'a, S> {
         // answered as done.
         ensures wrote { OnOk result (WritesFile S.creates S.closes S.File.contents self.old.system (path_join self.old.folder name.now) bytes.now self.new.system) }
         // Only where the path was refused, or its file took only the first of the bytes, is it a failure.
-        ensures failed { result ≡ Err TrayError.Failed → (opened : Bool) × StopsWriting S.creates S.closes S.File.contents self.old.system (path_join self.old.folder name.now) bytes.now self.new.system opened }
+        ensures failed { result ≡ Err TrayError.Failed → StopsWriting S.creates S.closes S.File.contents self.old.system (path_join self.old.folder name.now) bytes.now self.new.system }
         ensures untouched { result ≡ Err TrayError.NoMemory → self.new.system ≡ self.old.system }
     {
         let Ok(path) = Path::new(self.folder).join(self.alloc, name) else {

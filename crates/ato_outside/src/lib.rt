@@ -6,7 +6,8 @@
 //! with `Counts` of `specs/Causes`, which says when a count of faults or misses rises. The
 //! implementations in memory tell what they hold, and fail by number as `GetsByNumber`,
 //! `PutsByNumber` and `WritesByNumber` say, or never. Those over a real folder and standard output
-//! tell no content.
+//! tell no content; `specs/Folder` says what a folder's do with the file that they open, over any
+//! `System`.
 #![tactic(auto)]
 
 mod dir_shelf;

@@ -111,12 +111,16 @@ fn a_real_folder_gives_back_what_was_put(rt: HostRuntime) -> Result<(), Fail> {
         Ok(Got::Missing)
     );
     assert_eq!(rt; shelf.get(".", 4, &mut into), Err(ShelfError::Failed));
-    assert_eq!(rt; (shelf.faults(), shelf.misses()), (1, 1));
+    assert_eq!(rt;
+        shelf.get("ato_outside_real_folder.txt/file", 4, &mut into),
+        Err(ShelfError::Failed)
+    );
+    assert_eq!(rt; (shelf.faults(), shelf.misses()), (2, 1));
     fs::remove_file(&rt, folder.join(alloc, name)?)?;
     Ok(())
 }
 
-/// So many bytes, which repeat only after a length that divides no piece of a read.
+/// So many bytes. They repeat after 251, so that no two pieces of a read are alike.
 fn long_bytes(alloc: Global, length: usize) -> Result<Vec<u8>, NoMemory> {
     let mut bytes = Vec::new(alloc);
     let mut next = 1u8;
