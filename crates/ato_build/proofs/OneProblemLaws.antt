@@ -5,7 +5,7 @@ use Rattle.std.specs.List.{AllByRecursion, AllZip}
 use Rattle.std.specs.Str.{bytes_eq}
 use Rattle.std.proofs.lemmas.List.Elements.{All-from_recursion}
 use Rattle.ato_frac.specs.declared.fraction.Frac.{Frac}
-use Rattle.ato_frac.proofs.OneFraction.{fraction_same}
+use Rattle.ato_frac.specs.OneNumber.{fraction_same}
 use Rattle.ato_rational.proofs.Order.{≈ℚ_sym, ≈ℚ_trans}
 use Rattle.ato_catalog.specs.Catalogue.{IsWhole}
 use Rattle.ato_catalog.specs.Contents.{Contents, cell_under}

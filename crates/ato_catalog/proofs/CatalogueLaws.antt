@@ -6,7 +6,7 @@ use Rattle.ato_base.specs.declared.faults.Fault.{Fault}
 use Rattle.ato_base.specs.declared.faults.Refusal.TheVariants as refusal
 use Rattle.ato_frac.specs.declared.fraction.Frac.{Frac}
 use Rattle.ato_frac.specs.Fractions.{value_of}
-use Rattle.ato_frac.proofs.OneFraction.{fraction_same}
+use Rattle.ato_frac.specs.OneNumber.{fraction_same}
 use Rattle.ato_rational.specs.Rational.{◌≈ℚ◌, ℚ}
 use Rattle.ato_rational.proofs.Order.{≈ℚ_sym, ≈ℚ_trans}
 use Rattle.ato_catalog.specs.Catalogue.{IsCatalogue, IsRead, IsRefused, ShowsCell, ShowsCells, ShowsContents, ShowsRow, ShowsRows}

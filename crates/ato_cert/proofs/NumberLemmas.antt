@@ -18,7 +18,7 @@ use Rattle.ato_frac.specs.declared.fraction.Frac.{Frac}
 use Rattle.ato_frac.specs.Fractions.{value_of}
 use Rattle.ato_frac.specs.LowestTerms.{signed_of}
 use Rattle.ato_frac.specs.Range.{IsInRange}
-use Rattle.ato_frac.proofs.OneFraction.{fraction_same}
+use Rattle.ato_frac.specs.OneNumber.{fraction_same}
 use Rattle.ato_frac.proofs.Ranges.{in_range, as_quotient}
 use Rattle.ato_rational.specs.Rational.{◌≈ℚ◌, ◌/ℚ◌, whole}
 use Rattle.ato_rational.proofs.Order.{≈ℚ_sym, ≈ℚ_trans}

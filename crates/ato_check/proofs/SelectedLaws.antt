@@ -6,7 +6,7 @@ use Rattle.ato_rational.proofs.Order.{≤ℚ_trans, <ℚ-≤ℚ, ≈ℚ-≤ℚ, 
 use Rattle.ato_rational.proofs.Fields.{zero_below_one}
 use Rattle.ato_frac.specs.declared.fraction.Frac.{Frac}
 use Rattle.ato_frac.specs.Fractions.{value_of, CanSubtract, CanAdd, CanMultiply}
-use Rattle.ato_frac.proofs.OneFraction.{fraction_same}
+use Rattle.ato_frac.specs.OneNumber.{fraction_same}
 use Rattle.ato_cert.specs.declared.problem.Row.{Row}
 use Rattle.ato_cert.specs.Selection.{IsBetween, IsSelected, at_low, at_high, between}
 

@@ -1,10 +1,8 @@
-pub mod Coprime
 pub mod Digits
 pub mod Dividing
 pub mod Grammar
 pub mod LowestTerms
 pub mod Multiplying
-pub mod OneFraction
 pub mod Ranges
 pub mod Readable
 pub mod Rows

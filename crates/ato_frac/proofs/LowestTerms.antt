@@ -6,7 +6,7 @@ use Rattle.std.proofs.lemmas.Int.{unsigned_abs-mul, fits_signed_from_abs, to_z-o
 use Rattle.std.specs.Int.{w128}
 use Rattle.ato_frac.specs.LowestTerms.{signed_of, HasSmallTerms}
 use Rattle.ato_frac.specs.declared.fraction.Frac.{Frac}
-use Rattle.ato_frac.proofs.Coprime.{coprime_quotients, lowest_unique}
+use Rattle.ato_frac.specs.Coprime.{coprime_quotients, lowest_unique}
 use Rattle.ato_rational.proofs.Ring.{int, nat, opp, ◌⊗◌, same, from_same}
 
 pub unsigned_abs-signed : (negative : Bool) (n : ℕ) → unsigned_abs (signed_of negative n) ≡ n

@@ -3,7 +3,7 @@ use Rattle.std.proofs.Common.{◌≡◌, ℕ, ◌*◌, ◌/◌, ◌<◌, ℤ, po
 use Rattle.std.specs.Int.{IsGcd}
 use Rattle.std.proofs.Math.Nat.{div-mul_cancel}
 use Rattle.std.proofs.lemmas.Nat.Gcd.{IsGcd-swap}
-use Rattle.ato_frac.proofs.Coprime.{coprime_product, coprime_divisors, quotient_dvd}
+use Rattle.ato_frac.specs.Coprime.{coprime_product, coprime_divisors, quotient_dvd}
 use Rattle.ato_frac.proofs.LowestTerms.{quotients_coprime, quotient_positive, in_range_lowest, signed_cross}
 use mathlib.Core.Bool.{beq}
 use Rattle.ato_frac.specs.declared.fraction.Frac.{Frac}

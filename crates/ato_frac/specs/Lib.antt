@@ -1,8 +1,10 @@
+pub mod Coprime
 pub mod Decimals
 pub mod Faults
 pub mod Fractions
 pub mod LowestTerms
 pub mod Numbers
+pub mod OneNumber
 pub mod Range
 pub mod Reading
 pub mod Scaling

@@ -1,6 +1,7 @@
 //! Whole numbers of coins.
 ghost use Rattle.std.specs.Prelude.{◌+◌, ◌*◌, ◌≤◌, ◌<◌, ◌^◌, pos};
 ghost use Rattle.ato_rational.specs.Rational.{whole};
+ghost use Rattle.ato_frac.specs.OneNumber.{coin_same};
 
 use crate::Exact;
 use std::cmp::Ordering;
@@ -17,6 +18,8 @@ impl Exact for Coin {
     ghost can_subtract = { λ x y. y.0 ≤ x.0 };
 
     ghost can_multiply = { λ x y. x.0 * y.0 < 2 ^ 64 };
+
+    ghost one_of_value = { coin_same };
 
     fn zero() -> Coin {
         Coin(0)

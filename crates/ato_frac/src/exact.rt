@@ -1,8 +1,7 @@
 //! What exact numbers have in common: each means a rational value, and an operation gives exactly
 //! the value of its result or refuses it.
-ghost use Rattle.std.specs.Prelude.{◌⊎◌, MatchOption, MatchResult};
-ghost use Rattle.ato_rational.specs.Rational.{ℚ, ◌≈ℚ◌, ◌≤ℚ◌, ◌+ℚ◌, ◌-ℚ◌, ◌*ℚ◌, ◌/ℚ◌, IsNotZero, zero_ℚ, one_ℚ, Orders};
-ghost use Rattle.ato_rational.proofs.Order.{≤ℚ_total, +ℚ_given_mono, -ℚ_given_mono, *ℚ_given_mono};
+ghost use Rattle.std.specs.Prelude.{◌≡◌, MatchOption, MatchResult};
+ghost use Rattle.ato_rational.specs.Rational.{ℚ, ◌≈ℚ◌, ◌+ℚ◌, ◌-ℚ◌, ◌*ℚ◌, ◌/ℚ◌, IsNotZero, zero_ℚ, one_ℚ, Orders};
 ghost use Rattle.ato_frac.specs.Faults.{RefusesQuotient};
 
 use crate::NumFault;
@@ -11,7 +10,7 @@ use std::cmp::Ordering;
 /// Numbers that mean rational values, with sums, differences and products that are exact or absent.
 ///
 /// Whether a result is there is a matter of the type alone: one rule of two operands for each
-/// operation.
+/// operation. Since each value has one number at most, this is a matter of the two values alone.
 pub trait Exact: Copy {
     // what a number means
     ghost value: { Self → ℚ };
@@ -53,23 +52,8 @@ pub trait Exact: Copy {
     fn compare(&self, o: &Self) -> Ordering
         ensures { Orders (value self.now) (value o.now) result };
 
-    // Of two numbers one is at most the other.
-    ghost total: { (x y : Self) → (value x ≤ℚ value y) ⊎ (value y ≤ℚ value x) } = { λ x y. ≤ℚ_total (value x) (value y) };
-
-    // A sum r of x and z is at most a sum s of no lesser numbers.
-    ghost sums_rise: { (x y z w r s : Self) → value x ≤ℚ value y → value z ≤ℚ value w
-        → value r ≈ℚ value x +ℚ value z → value s ≈ℚ value y +ℚ value w
-        → value r ≤ℚ value s } = { λ x y z w r s. +ℚ_given_mono (value x) (value y) (value z) (value w) (value r) (value s) };
-
-    // A difference rises with its first number and falls with its second.
-    ghost differences_rise: { (x y z w r s : Self) → value x ≤ℚ value y → value w ≤ℚ value z
-        → value r ≈ℚ value x -ℚ value z → value s ≈ℚ value y -ℚ value w
-        → value r ≤ℚ value s } = { λ x y z w r s. -ℚ_given_mono (value x) (value y) (value z) (value w) (value r) (value s) };
-
-    // A product by a number that is not negative rises with the other.
-    ghost products_rise: { (x y z r s : Self) → zero_ℚ ≤ℚ value z → value x ≤ℚ value y
-        → value r ≈ℚ value x *ℚ value z → value s ≈ℚ value y *ℚ value z
-        → value r ≤ℚ value s } = { λ x y z r s. *ℚ_given_mono (value x) (value y) (value z) (value r) (value s) };
+    // Numbers of one value are one number.
+    ghost one_of_value: { (x y : Self) → value x ≈ℚ value y → x ≡ y };
 }
 
 /// Exact numbers with quotients.

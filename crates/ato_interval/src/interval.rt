@@ -45,6 +45,9 @@ impl<Q: Exact> Model for Interval<Q> {
 }
 
 impl<Q: Exact> Clone for Interval<Q> {
+    // a clone has the same ends
+    ghost is_clone = { λ interval copy. copy ≡ interval };
+
     fn clone(&self) -> Result<Interval<Q>, AllocError> {
         Ok(*self)
     }

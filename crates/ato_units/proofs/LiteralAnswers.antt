@@ -14,7 +14,7 @@ use Rattle.ato_frac.specs.declared.fraction.Frac.{Frac}
 use Rattle.ato_frac.specs.Decimals.{Reads}
 use Rattle.ato_frac.specs.Fractions.{value_of}
 use Rattle.ato_frac.specs.Numbers.{Parts, number_value}
-use Rattle.ato_frac.proofs.OneFraction.{fraction_same}
+use Rattle.ato_frac.specs.OneNumber.{fraction_same}
 use Rattle.ato_frac.proofs.Grammar.{number_unique}
 use Rattle.ato_rational.specs.Rational.{◌≈ℚ◌}
 use Rattle.ato_rational.proofs.Order.{≈ℚ_sym, ≈ℚ_trans}

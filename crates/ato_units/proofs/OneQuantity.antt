@@ -2,7 +2,7 @@
 use Rattle.std.proofs.Common.{◌≡◌, Bool, true, false, Option, Some, None, Result, Ok, Err, List, ℤ, refl, sym, ap, ◌∙◌, subst}
 use Rattle.ato_frac.specs.declared.fraction.Frac.{Frac}
 use Rattle.ato_frac.specs.Fractions.{value_of}
-use Rattle.ato_frac.proofs.OneFraction.{fraction_same}
+use Rattle.ato_frac.specs.OneNumber.{fraction_same}
 use Rattle.ato_frac.proofs.Ranges.{in_range}
 use Rattle.ato_rational.specs.Rational.{◌≤ℚ◌, ◌<ℚ◌}
 use Rattle.ato_rational.proofs.Order.{≈ℚ_sym, ≈ℚ_trans, clash_ℚ}

@@ -9,7 +9,7 @@ use Rattle.ato_frac.specs.declared.fraction.Frac.{Frac}
 use Rattle.ato_frac.specs.Fractions.{value_of, CanMultiply}
 use Rattle.ato_frac.specs.Numbers.{ten_to}
 use Rattle.ato_frac.specs.Range.{IsInRange}
-use Rattle.ato_frac.proofs.OneFraction.{fraction_same}
+use Rattle.ato_frac.specs.OneNumber.{fraction_same}
 use Rattle.ato_frac.proofs.Ranges.{in_range}
 use Rattle.ato_frac.proofs.Scaled.{range_moved}
 use Rattle.ato_rational.specs.Rational.{ℚ, ◌≈ℚ◌, ◌≤ℚ◌, ◌<ℚ◌, Orders, ◌*ℚ◌, neg_ℚ, abs_ℚ, le_ℚ}

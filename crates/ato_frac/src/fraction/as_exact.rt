@@ -1,5 +1,6 @@
 //! Fractions as exact numbers.
 ghost use Rattle.ato_frac.specs.Fractions.{value_of, CanAdd, CanSubtract, CanMultiply, CanDivide};
+ghost use Rattle.ato_frac.specs.OneNumber.{fraction_same};
 
 use crate::{Divides, Exact, Frac, NumFault};
 use std::cmp::Ordering;
@@ -12,6 +13,8 @@ impl Exact for Frac {
     ghost can_subtract = { CanSubtract };
 
     ghost can_multiply = { CanMultiply };
+
+    ghost one_of_value = { fraction_same };
 
     fn zero() -> Frac {
         Frac { numer: 0, denom: 1 }

@@ -1,4 +1,5 @@
 use Rattle.ato_rational.specs.Rational.{◌+ℚ◌}
+use Rattle.ato_rational.proofs.Order.{+ℚ_given_mono}
 use Rattle.ato_rational.proofs.Ends.{sum_within}
 use Rattle.ato_interval.proofs.ResultLaws.{ends_same, low_low, high_high}
 use Rattle.ato_interval.proofs.interval.Interval.add.Goals as goal
@@ -14,3 +15,7 @@ returns-clause-low_is g c =
 pub returns-clause-high_is : goal.returns-clause-high_is
 returns-clause-high_is g c =
     rw (← c.self.view_is, ← c.o.view_is) (high_high g.Q.Exact.value ◌+ℚ◌ _ _ c.self.invariant c.o.invariant _ c.in-Some-plus.ensures.1)
+
+pub invariant_of-result : goal.invariant_of-result
+invariant_of-result g c =
+    +ℚ_given_mono _ _ _ _ _ _ c.self.invariant c.o.invariant c.in-Some.ensures.1 c.in-Some-plus.ensures.1

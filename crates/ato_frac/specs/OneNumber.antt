@@ -1,5 +1,5 @@
--- Each value in range has one fraction.
-use Rattle.std.proofs.Common.{◌≡◌, ◌+◌, ◌*◌, ◌^◌, ◌<◌, pos, unsigned_abs, Ordering, Equal, sym, ap, subst, ◌∙◌, arith}
+-- Each value has one number at most: one fraction, and one coin.
+use Rattle.std.proofs.Common.{◌≡◌, ◌+◌, ◌*◌, ◌^◌, ◌<◌, pos, unsigned_abs, sym, ap, ◌∙◌, arith}
 use Rattle.std.proofs.Math.Nat.{eq_of_mul-eq-mul_right}
 use borrow.Author.Differences.{up, down}
 use Rattle.std.proofs.Math.Bridge.{le_prop}
@@ -7,10 +7,11 @@ use Rattle.std.proofs.Math.Nat.{∣_prop}
 use Rattle.std.specs.Int.{IsGcd}
 use mathlib.Core.HLevel.{is_prop→PathP}
 use Rattle.std.proofs.lemmas.Int.{unsigned_abs-mul}
+use Rattle.ato_frac.specs.declared.coin.Coin.{Coin}
 use Rattle.ato_frac.specs.declared.fraction.Frac.{Frac}
 use Rattle.ato_frac.specs.Fractions.{value_of}
-use Rattle.ato_frac.proofs.Coprime.{lowest_unique}
-use Rattle.ato_rational.specs.Rational.{◌≈ℚ◌, Orders}
+use Rattle.ato_frac.specs.Coprime.{lowest_unique}
+use Rattle.ato_rational.specs.Rational.{◌≈ℚ◌, whole}
 use Rattle.ato_rational.proofs.Ring.{int, nat, ◌⊗◌, same, from_same}
 
 -- fractions of one value have the same parts
@@ -26,7 +27,7 @@ parts_same x y e =
       t.1,
     )
 
--- so a value has one fraction at most
+-- so a value has one fraction
 pub fraction_same : (x y : Frac) → value_of x ≈ℚ value_of y → x ≡ y
 fraction_same x y e =
     let p = parts_same x y e in
@@ -39,5 +40,9 @@ fraction_same x y e =
       lowest = is_prop→PathP (λ j. IsGcd (unsigned_abs (p.0 j)) (p.1 j) 1) (λ j. hlevel (le_prop, ∣_prop)) x.lowest y.lowest i;
     }
 
-pub equal_same : (x y : Frac) (r : Ordering) → Orders (value_of x) (value_of y) r → r ≡ Equal → x ≡ y
-equal_same x y r h e = fraction_same x y (subst (λ (z : Ordering). Orders (value_of x) (value_of y) z) e h)
+-- and one coin at most
+pub coin_same : (x y : Coin) → whole (pos x.0) ≈ℚ whole (pos y.0) → x ≡ y
+coin_same x y e =
+    let p = from_same (nat x.0 ⊗ nat 1) (nat y.0 ⊗ nat 1) e.same in
+    let same : x.0 ≡ y.0 = omega (arith, p) in
+    λ i. record { 0 = same i }
