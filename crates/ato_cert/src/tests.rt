@@ -43,17 +43,20 @@ fn text_with(alloc: Global, word: &str, proof: &str) -> Result<String, NoMemory>
     Ok(format!(in alloc; "ato-certificate 1\nverdict {word}\nsteps 20000\n{proof}")?)
 }
 
+/// Candidates, a target, and whether the problem of both is well made.
+const PROBLEMS: &[(&[(u32, i128, i128)], (i128, i128), bool)] = &[
+    (&[(1, 0, 0), (2, 5, 5)], (0, 0), true),
+    (&[(1, 0, 0), (1, 5, 5)], (0, 0), false),
+    (&[(2, 0, 0), (1, 5, 5)], (0, 0), false),
+    (&[(1, 0, 0), (2, 5, 4)], (0, 0), false),
+    (&[(1, 0, 0), (2, 5, 5)], (1, 0), false),
+];
+
 #[test]
 fn problems_that_are_not_well_made(rt: HostRuntime) -> Result<(), Fail> {
-    for (candidates, target, is) in [
-        ([(1, 0, 0), (2, 5, 5)], (0, 0), true),
-        ([(1, 0, 0), (1, 5, 5)], (0, 0), false),
-        ([(2, 0, 0), (1, 5, 5)], (0, 0), false),
-        ([(1, 0, 0), (2, 5, 4)], (0, 0), false),
-        ([(1, 0, 0), (2, 5, 5)], (1, 0), false),
-    ] {
-        let problem = problem_of(rt.alloc(), candidates.as_slice(), target)?;
-        assert_eq!(rt; problem.is_well_made(), is);
+    for (candidates, target, is) in PROBLEMS {
+        let problem = problem_of(rt.alloc(), candidates, *target)?;
+        assert!(rt; problem.is_well_made() == *is);
     }
     Ok(())
 }
@@ -77,87 +80,105 @@ fn bad_line(alloc: Global, text: &[u8], problem: &Problem) -> Result<u32, NoMemo
     }
 }
 
+/// Texts and their bad lines.
+const TEXTS: &[(&str, u32)] = &[
+    ("", 1),
+    ("ato-certificate 2\n", 1),
+    ("ato-certificate 1\n", 2),
+    ("ato-certificate 1\nverdict too-wide\n", 2),
+    ("ato-certificate 1\nverdict built\npick 2\n", 3),
+    (
+        "ato-certificate 1\nverdict built\nsteps 0\npick 2\nend\n",
+        3,
+    ),
+    (
+        "ato-certificate 1\nverdict built\nsteps 200001\npick 2\nend\n",
+        3,
+    ),
+    (
+        "ato-certificate 1\nverdict built\nsteps 020\npick 2\nend\n",
+        3,
+    ),
+    (
+        "ato-certificate 1\nverdict built\nsteps 200000\npick 2\nend\n",
+        0,
+    ),
+];
+
+/// Verdicts, the lines after the steps, and the bad line.
+const PROOFS: &[(&str, &str, u32)] = &[
+    ("built", "pick 2\ncheck 1\nholds\nend\n", 0),
+    ("built", "pick 4294967295\nend\n", 0),
+    ("built", "pick 4294967296\nend\n", 4),
+    ("built", "pick 02\nend\n", 4),
+    ("built", "pick 1 2\nend\n", 4),
+    ("built", "pick\nend\n", 4),
+    ("built", "pick 2\ncheck 2\nholds\nend\n", 5),
+    ("built", "pick 2\ncheck 1\nwide\nend\n", 6),
+    ("built", "pick 2\ncheck 1\nholds\n", 7),
+    ("built", "pick 2\nend\n\n", 6),
+    ("refuted", "empty 1\n", 0),
+    ("refuted", "empty 2\n", 4),
+    ("refuted", "row 1 5\nempty 1\n", 6),
+    ("refuted", "row 1 5\nempty 1\nfails 1\n", 0),
+    ("refuted", "row 1 5\nempty 1\nempty 1\nempty 1\n", 7),
+    ("refuted", "row  1 5\nempty 1\nempty 1\n", 4),
+    ("refuted", "fails 1 0/1 -3/4 12/5\n", 0),
+    (
+        "refuted",
+        "fails 1 170141183460469231731687303715884105727/2\n",
+        0,
+    ),
+    (
+        "refuted",
+        "fails 1 170141183460469231731687303715884105728/1\n",
+        4,
+    ),
+    ("refuted", "fails 1 2/4\n", 4),
+    ("refuted", "fails 1 -0/1\n", 4),
+    ("refuted", "fails 1 1/0\n", 4),
+    ("refuted", "fails 1 1/1 0", 4),
+    ("refuted", "fails 2 1/1\n", 4),
+    ("refuted", "", 4),
+];
+
+/// The same where the problem has no slot.
+const PROOFS_WITHOUT_SLOT: &[(&str, &str, u32)] = &[
+    ("built", "pick\nend\n", 0),
+    ("built", "pick 1\nend\n", 4),
+    ("built", "pick\ncheck 1\nholds\nend\n", 5),
+    ("refuted", "empty 1\n", 4),
+];
+
+/// Whether a certificate with these lines has this bad line.
+fn is_bad_at(
+    alloc: Global,
+    problem: &Problem,
+    word: &str,
+    proof: &str,
+    line: u32,
+) -> Result<bool, NoMemory> {
+    let text = text_with(alloc, word, proof)?;
+    Ok(bad_line(alloc, text.as_bytes(), problem)? == line)
+}
+
 #[test]
 fn first_bad_lines_of_texts(rt: HostRuntime) -> Result<(), Fail> {
     let alloc = rt.alloc();
-    let problem = problem_of(alloc, [(1, 1, 3), (2, 2, 2)].as_slice(), (2, 4))?;
-    for (text, line) in [
-        ("", 1),
-        ("ato-certificate 2\n", 1),
-        ("ato-certificate 1\n", 2),
-        ("ato-certificate 1\nverdict too-wide\n", 2),
-        ("ato-certificate 1\nverdict built\npick 2\n", 3),
-        (
-            "ato-certificate 1\nverdict built\nsteps 0\npick 2\nend\n",
-            3,
-        ),
-        (
-            "ato-certificate 1\nverdict built\nsteps 200001\npick 2\nend\n",
-            3,
-        ),
-        (
-            "ato-certificate 1\nverdict built\nsteps 020\npick 2\nend\n",
-            3,
-        ),
-        (
-            "ato-certificate 1\nverdict built\nsteps 200000\npick 2\nend\n",
-            0,
-        ),
-    ] {
-        assert_eq!(rt; bad_line(alloc, text.as_bytes(), &problem)?, line, "{text}");
-    }
-    for (word, proof, line) in [
-        ("built", "pick 2\ncheck 1\nholds\nend\n", 0),
-        ("built", "pick 4294967295\nend\n", 0),
-        ("built", "pick 4294967296\nend\n", 4),
-        ("built", "pick 02\nend\n", 4),
-        ("built", "pick 1 2\nend\n", 4),
-        ("built", "pick\nend\n", 4),
-        ("built", "pick 2\ncheck 2\nholds\nend\n", 5),
-        ("built", "pick 2\ncheck 1\nwide\nend\n", 6),
-        ("built", "pick 2\ncheck 1\nholds\n", 7),
-        ("built", "pick 2\nend\n\n", 6),
-        ("refuted", "empty 1\n", 0),
-        ("refuted", "empty 2\n", 4),
-        ("refuted", "row 1 5\nempty 1\n", 6),
-        ("refuted", "row 1 5\nempty 1\nfails 1\n", 0),
-        ("refuted", "row 1 5\nempty 1\nempty 1\nempty 1\n", 7),
-        ("refuted", "row  1 5\nempty 1\nempty 1\n", 4),
-        ("refuted", "fails 1 0/1 -3/4 12/5\n", 0),
-        (
-            "refuted",
-            "fails 1 170141183460469231731687303715884105727/2\n",
-            0,
-        ),
-        (
-            "refuted",
-            "fails 1 170141183460469231731687303715884105728/1\n",
-            4,
-        ),
-        ("refuted", "fails 1 2/4\n", 4),
-        ("refuted", "fails 1 -0/1\n", 4),
-        ("refuted", "fails 1 1/0\n", 4),
-        ("refuted", "fails 1 1/1 0", 4),
-        ("refuted", "fails 2 1/1\n", 4),
-        ("refuted", "", 4),
-    ] {
-        let text = text_with(alloc, word, proof)?;
-        assert_eq!(rt;
-            bad_line(alloc, text.as_bytes(), &problem)?,
-            line,
-            "{proof}"
+    let problem = problem_of(alloc, &[(1, 1, 3), (2, 2, 2)], (2, 4))?;
+    for (text, line) in TEXTS {
+        assert!(rt;
+            bad_line(alloc, text.as_bytes(), &problem)? == *line,
+            "{text}"
         );
     }
-    for (word, proof, line) in [
-        ("built", "pick\nend\n", 0),
-        ("built", "pick 1\nend\n", 4),
-        ("built", "pick\ncheck 1\nholds\nend\n", 5),
-        ("refuted", "empty 1\n", 4),
-    ] {
-        let text = text_with(alloc, word, proof)?;
-        assert_eq!(rt;
-            bad_line(alloc, text.as_bytes(), &Problem { slot: None })?,
-            line,
+    for (word, proof, line) in PROOFS {
+        assert!(rt; is_bad_at(alloc, &problem, word, proof, *line)?, "{proof}");
+    }
+    let unslotted = Problem { slot: None };
+    for (word, proof, line) in PROOFS_WITHOUT_SLOT {
+        assert!(rt;
+            is_bad_at(alloc, &unslotted, word, proof, *line)?,
             "{proof}"
         );
     }
@@ -180,10 +201,9 @@ fn bad_line_of_rows(alloc: Global, rows: usize, problem: &Problem) -> Result<u32
 #[test]
 fn trees_of_many_rows(rt: HostRuntime) -> Result<(), Fail> {
     let alloc = rt.alloc();
-    let problem = problem_of(alloc, [(1, 1, 3)].as_slice(), (2, 4))?;
-    for (rows, line) in [(10_000, 0), (10_001, 10_004)] {
-        assert_eq!(rt; bad_line_of_rows(alloc, rows, &problem)?, line, "{rows}");
-    }
+    let problem = problem_of(alloc, &[(1, 1, 3)], (2, 4))?;
+    assert!(rt; bad_line_of_rows(alloc, 10_000, &problem)? == 0);
+    assert!(rt; bad_line_of_rows(alloc, 10_001, &problem)? == 10_004);
     Ok(())
 }
 
@@ -199,45 +219,58 @@ fn nodes_of_text(alloc: Global, text: &[u8], problem: &Problem) -> Result<u32, N
     }
 }
 
+/// Verdicts, the lines after the steps, and how many nodes they are.
+const NODES: &[(&str, &str, u32)] = &[
+    ("built", "pick 2\ncheck 1\nholds\nend\n", 1),
+    ("built", "pick 2\nend\n", 0),
+    ("refuted", "empty 1\n", 1),
+    ("refuted", "row 1 1\nfails 1 0/1\nfails 1 0/1\n", 3),
+];
+
+/// Whether a certificate with these lines has so many nodes.
+fn has_nodes(
+    alloc: Global,
+    problem: &Problem,
+    word: &str,
+    proof: &str,
+    count: u32,
+) -> Result<bool, NoMemory> {
+    let text = text_with(alloc, word, proof)?;
+    Ok(nodes_of_text(alloc, text.as_bytes(), problem)? == count)
+}
+
 #[test]
 fn nodes_are_lines_of_trees_and_of_boxes(rt: HostRuntime) -> Result<(), Fail> {
     let alloc = rt.alloc();
     valid_is_sound();
     valid_is_writable();
-    let problem = problem_of(alloc, [(1, 1, 3), (2, 2, 2)].as_slice(), (2, 4))?;
-    for (word, proof, count) in [
-        ("built", "pick 2\ncheck 1\nholds\nend\n", 1),
-        ("built", "pick 2\nend\n", 0),
-        ("refuted", "empty 1\n", 1),
-        ("refuted", "row 1 1\nfails 1 0/1\nfails 1 0/1\n", 3),
-    ] {
-        let text = text_with(alloc, word, proof)?;
-        assert_eq!(rt;
-            nodes_of_text(alloc, text.as_bytes(), &problem)?,
-            count,
-            "{proof}"
-        );
+    let problem = problem_of(alloc, &[(1, 1, 3), (2, 2, 2)], (2, 4))?;
+    for (word, proof, count) in NODES {
+        assert!(rt; has_nodes(alloc, &problem, word, proof, *count)?, "{proof}");
     }
     Ok(())
 }
 
+/// Whether these rows of a slot are in its target, one by one.
+fn are_in_target(slot: &Slot, inside: &[bool]) -> bool {
+    let rows = slot.rows.as_slice();
+    rows.len() == inside.len()
+        && rows
+            .iter()
+            .zip(inside)
+            .all(|(row, is)| slot.has_in_target(row) == *is)
+}
+
 #[test]
 fn rows_against_targets_and_their_middle(rt: HostRuntime) -> Result<(), Fail> {
-    let problem = problem_of(
-        rt.alloc(),
-        [(1, 1, 3), (2, 2, 2), (5, 2, 4)].as_slice(),
-        (2, 4),
-    )?;
+    let problem = problem_of(rt.alloc(), &[(1, 1, 3), (2, 2, 2), (5, 2, 4)], (2, 4))?;
     if let Some(slot) = &problem.slot {
-        for (row, inside) in slot.rows.as_slice().iter().zip([false, true, true]) {
-            assert_eq!(rt; slot.has_in_target(row), inside);
-        }
+        assert!(rt; are_in_target(slot, &[false, true, true]));
         if problem.is_well_made() && slot.rows.len() == 3 {
             let (low, number, high) = halves(slot.rows.as_slice());
-            assert_eq!(rt; (low.len(), number, high.len()), (2, 2, 1));
+            assert!(rt; low.len() == 2 && number == 2 && high.len() == 1);
         }
     }
-    assert!(rt; is_at_most(&whole(2), &whole(2)));
-    assert!(rt; !is_at_most(&whole(3), &whole(2)));
+    assert!(rt; is_at_most(&whole(2), &whole(2)) && !is_at_most(&whole(3), &whole(2)));
     Ok(())
 }
