@@ -31,23 +31,33 @@ fn lists_and_texts_grow(rt: HostRuntime) -> Result<(), Fail> {
     Ok(())
 }
 
+/// Names in turn, each with its number.
+const NAMES: &[(&str, usize)] = &[
+    ("vin", 3),
+    ("max", 1),
+    ("gnd", 4),
+    ("vin", 3),
+    ("", 5),
+    ("abs", 0),
+];
+
+/// Whether the next name has this number, is found by it and is its text.
+fn is_numbered(names: &mut NameTable, text: &str, number: usize) -> Result<bool, NoMemory> {
+    let number = Name(number);
+    Ok(
+        names.intern(text)? == number
+            && names.find(text) == Some(number)
+            && names.text(number) == Some(text),
+    )
+}
+
 #[test]
 fn names_keep_their_first_place(rt: HostRuntime) -> Result<(), Fail> {
     let mut names = NameTable::new(rt.alloc())?;
-    for (text, number) in [
-        ("vin", 3),
-        ("max", 1),
-        ("gnd", 4),
-        ("vin", 3),
-        ("", 5),
-        ("abs", 0),
-    ] {
-        assert_eq!(rt; names.intern(text)?, Name(number));
-        assert_eq!(rt; names.find(text), Some(Name(number)));
-        assert_eq!(rt; names.text(Name(number)), Some(text));
+    for (text, number) in NAMES {
+        assert!(rt; is_numbered(&mut names, text, *number)?, "{text}");
     }
-    assert_eq!(rt; names.find("Vin"), None);
-    assert_eq!(rt; names.text(Name(6)), None);
+    assert!(rt; names.find("Vin").is_none() && names.text(Name(6)).is_none());
     Ok(())
 }
 
@@ -65,24 +75,27 @@ fn names_of_the_language(rt: HostRuntime) {
         ("Pin", true),
         ("True", false),
         ("\u{301}a", false),
-    ] {
-        assert_eq!(rt; is_name(text), is, "{text}");
+    ]
+    .iter()
+    {
+        assert!(rt; is_name(text) == *is, "{text}");
     }
 }
 
+/// Kinds of faults, their numbers and names.
+const KINDS: &[(FaultKind, u8, &str)] = &[
+    (FaultKind::BadText, 1, "BadText"),
+    (FaultKind::Syntax, 6, "Syntax"),
+    (FaultKind::NameUnknown, 11, "NameUnknown"),
+    (FaultKind::NoHeader, 20, "NoHeader"),
+    (FaultKind::ProblemTooLarge, 30, "ProblemTooLarge"),
+];
+
 #[test]
 fn kinds_and_spellings(rt: HostRuntime) {
-    for (kind, number, name) in [
-        (FaultKind::BadText, 1, "BadText"),
-        (FaultKind::Syntax, 6, "Syntax"),
-        (FaultKind::NameUnknown, 11, "NameUnknown"),
-        (FaultKind::NoHeader, 20, "NoHeader"),
-        (FaultKind::ProblemTooLarge, 30, "ProblemTooLarge"),
-    ] {
-        assert_eq!(rt; kind.number(), number);
-        assert_eq!(rt; kind.name(), name);
+    for (kind, number, name) in KINDS {
+        assert!(rt; kind.number() == *number && kind.name() == *name, "{name}");
     }
-    assert_eq!(rt; Keyword::Within.spelling(), "within");
-    assert_eq!(rt; Mark::PlusMinus.spelling(), "+/-");
+    assert!(rt; Keyword::Within.spelling() == "within" && Mark::PlusMinus.spelling() == "+/-");
     assert!(rt; matches!(Refusal::from(NoMemory), Refusal::NoMemory));
 }
