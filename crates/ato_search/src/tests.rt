@@ -13,10 +13,13 @@ fn whole(n: i128) -> Frac {
     }
 }
 
+/// A candidate: its number and the ends of its range.
+type Candidate = (u32, i128, i128);
+
 /// The problem of candidates, each with its number and the ends of its range, and a target.
 fn problem_of(
     alloc: Global,
-    candidates: &[(u32, i128, i128)],
+    candidates: &[Candidate],
     target: (i128, i128),
 ) -> Result<Problem, NoMemory> {
     let mut rows = List::new(alloc);
@@ -65,77 +68,76 @@ fn text_with(alloc: Global, word: &str, proof: &str) -> Result<String, NoMemory>
 
 const MOST: i128 = 999_999_999_999_999_999;
 
+const TWO: &[Candidate] = &[(1, 1, 3), (2, 2, 2)];
+
+const THREE: &[Candidate] = &[(3, 0, 9), (7, 2, 3), (8, 2, 3)];
+
+const ODD: &[Candidate] = &[(1, 0, 1), (2, 9, 9), (4, -7, 7)];
+
+const LARGE: &[Candidate] = &[(1, 0, MOST), (4_294_967_295, MOST, MOST)];
+
+/// Candidates, a target, the verdict, and the lines after the steps.
+const CERTIFICATES: &[(&[Candidate], (i128, i128), &str, &str)] = &[
+    (TWO, (2, 4), "built", "pick 2\ncheck 1\nholds\nend\n"),
+    (
+        TWO,
+        (4, 5),
+        "refuted",
+        "row 1 1\nfails 1 0/1\nfails 1 0/1\n",
+    ),
+    (&[], (2, 4), "refuted", "empty 1\n"),
+    (THREE, (0, 9), "built", "pick 3\ncheck 1\nholds\nend\n"),
+    (THREE, (2, 3), "built", "pick 7\ncheck 1\nholds\nend\n"),
+    (
+        ODD,
+        (2, 8),
+        "refuted",
+        "row 1 2\nrow 1 1\nfails 1 0/1\nfails 1 1/1\nfails 1 0/1\n",
+    ),
+    (ODD, (-7, 7), "built", "pick 1\ncheck 1\nholds\nend\n"),
+    (
+        ODD,
+        (-7, -7),
+        "refuted",
+        "row 1 2\nrow 1 1\nfails 1 1/1\nfails 1 1/1\nfails 1 1/1\n",
+    ),
+    (
+        LARGE,
+        (MOST, MOST),
+        "built",
+        "pick 4294967295\ncheck 1\nholds\nend\n",
+    ),
+    (
+        LARGE,
+        (0, MOST - 1),
+        "refuted",
+        "row 1 1\nfails 1 1/1\nfails 1 1/1\n",
+    ),
+];
+
+/// Whether this certificate is found for these candidates.
+fn is_found(
+    alloc: Global,
+    candidates: &[Candidate],
+    target: (i128, i128),
+    word: &str,
+    proof: &str,
+) -> Result<bool, NoMemory> {
+    let problem = problem_of(alloc, candidates, target)?;
+    let want = text_with(alloc, word, proof)?;
+    match found_text(alloc, &problem)? {
+        Some((text, _)) => Ok(text.as_slice() == want.as_bytes()),
+        None => Ok(false),
+    }
+}
+
 #[test]
 fn certificates_to_the_byte(rt: HostRuntime) -> Result<(), Fail> {
-    let alloc = rt.alloc();
-    let none: [(u32, i128, i128); 0] = [];
-    let two = [(1, 1, 3), (2, 2, 2)];
-    let three = [(3, 0, 9), (7, 2, 3), (8, 2, 3)];
-    let odd = [(1, 0, 1), (2, 9, 9), (4, -7, 7)];
-    let large = [(1, 0, MOST), (4_294_967_295, MOST, MOST)];
-    for (candidates, target, word, proof) in [
-        (
-            two.as_slice(),
-            (2, 4),
-            "built",
-            "pick 2\ncheck 1\nholds\nend\n",
-        ),
-        (
-            two.as_slice(),
-            (4, 5),
-            "refuted",
-            "row 1 1\nfails 1 0/1\nfails 1 0/1\n",
-        ),
-        (none.as_slice(), (2, 4), "refuted", "empty 1\n"),
-        (
-            three.as_slice(),
-            (0, 9),
-            "built",
-            "pick 3\ncheck 1\nholds\nend\n",
-        ),
-        (
-            three.as_slice(),
-            (2, 3),
-            "built",
-            "pick 7\ncheck 1\nholds\nend\n",
-        ),
-        (
-            odd.as_slice(),
-            (2, 8),
-            "refuted",
-            "row 1 2\nrow 1 1\nfails 1 0/1\nfails 1 1/1\nfails 1 0/1\n",
-        ),
-        (
-            odd.as_slice(),
-            (-7, 7),
-            "built",
-            "pick 1\ncheck 1\nholds\nend\n",
-        ),
-        (
-            odd.as_slice(),
-            (-7, -7),
-            "refuted",
-            "row 1 2\nrow 1 1\nfails 1 1/1\nfails 1 1/1\nfails 1 1/1\n",
-        ),
-        (
-            large.as_slice(),
-            (MOST, MOST),
-            "built",
-            "pick 4294967295\ncheck 1\nholds\nend\n",
-        ),
-        (
-            large.as_slice(),
-            (0, MOST - 1),
-            "refuted",
-            "row 1 1\nfails 1 1/1\nfails 1 1/1\n",
-        ),
-    ] {
-        let problem = problem_of(alloc, candidates, target)?;
-        let want = text_with(alloc, word, proof)?;
-        match found_text(alloc, &problem)? {
-            Some((text, _)) => assert_eq!(rt; text.as_slice(), want.as_bytes(), "{proof}"),
-            None => assert!(rt; false),
-        }
+    for (candidates, target, word, proof) in CERTIFICATES {
+        assert!(rt;
+            is_found(rt.alloc(), candidates, *target, word, proof)?,
+            "{proof}"
+        );
     }
     Ok(())
 }
@@ -145,10 +147,7 @@ fn without_a_slot_the_empty_pick_is_built(rt: HostRuntime) -> Result<(), Fail> {
     let alloc = rt.alloc();
     let want = text_with(alloc, "built", "pick\nend\n")?;
     match found_text(alloc, &Problem { slot: None })? {
-        Some((text, count)) => {
-            assert_eq!(rt; text.as_slice(), want.as_bytes());
-            assert_eq!(rt; count, 0);
-        }
+        Some((text, count)) => assert!(rt; text.as_slice() == want.as_bytes() && count == 0),
         None => assert!(rt; false),
     }
     Ok(())
@@ -168,16 +167,22 @@ fn count_of_many(alloc: Global, rows: u32, target: (i128, i128)) -> Result<Optio
     }
 }
 
+/// How many rows, a target, and the nodes.
+const COUNTS: &[(u32, (i128, i128), Option<u32>)] = &[
+    (1, (0, 0), Some(1)),
+    (1000, (999, 999), Some(1)),
+    (1000, (2000, 3000), Some(1999)),
+    (1000, (3, 2), None),
+    (1001, (0, 0), None),
+];
+
 #[test]
 fn nodes_of_many_rows(rt: HostRuntime) -> Result<(), Fail> {
-    for (rows, target, count) in [
-        (1, (0, 0), Some(1)),
-        (1000, (999, 999), Some(1)),
-        (1000, (2000, 3000), Some(1999)),
-        (1000, (3, 2), None),
-        (1001, (0, 0), None),
-    ] {
-        assert_eq!(rt; count_of_many(rt.alloc(), rows, target)?, count);
+    for (rows, target, count) in COUNTS {
+        assert!(rt;
+            count_of_many(rt.alloc(), *rows, *target)? == *count,
+            "{rows}"
+        );
     }
     Ok(())
 }
