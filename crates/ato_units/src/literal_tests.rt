@@ -1,5 +1,6 @@
 use crate::tests::ends_of;
 use crate::{QuantityFault, read_quantity};
+use std::alloc::{AllocError, Global};
 use std::test::Fail;
 
 /// The exponent of the ampere and the four parts of the ends, or the fault.
@@ -13,16 +14,13 @@ fn reading(text: &str) -> Reading {
     }
 }
 
-/// Compares what is read of each text of a table with what stands beside it.
-macro_rules! each_text {
-    ($rt:expr, $table:expr) => {
-        for (text, want) in $table {
-            assert_eq!($rt; reading(text), want, "{text}");
-        }
-    };
+/// Whether a text is read so.
+fn is_read(text: &str, want: Reading) -> bool {
+    reading(text) == want
 }
 
-const LITERALS: [(&str, Reading); 25] = [
+/// Texts, and what is read of them.
+const LITERALS: &[(&str, Reading)] = &[
     ("10kohm +/- 5%", Ok((-2, 9500, 1, 10500, 1))),
     ("1 to 2V", Ok((-1, 1, 1, 2, 1))),
     ("3.3V +/- 2%", Ok((-1, 1617, 500, 1683, 500))),
@@ -52,10 +50,13 @@ const LITERALS: [(&str, Reading); 25] = [
 
 #[test]
 fn texts_of_literals(rt: HostRuntime) {
-    each_text!(rt, LITERALS);
+    for (text, want) in LITERALS {
+        assert!(rt; is_read(text, *want), "{text}");
+    }
 }
 
-const NO_LITERALS: [&str; 22] = [
+/// Texts that are no literals.
+const NO_LITERALS: &[&str] = &[
     "",
     " \t ",
     "V",
@@ -82,29 +83,43 @@ const NO_LITERALS: [&str; 22] = [
 
 #[test]
 fn texts_that_are_no_literals(rt: HostRuntime) {
-    each_text!(
-        rt,
-        NO_LITERALS.map(|text| (text, Err(QuantityFault::BadText)))
-    );
+    for text in NO_LITERALS {
+        assert!(rt; is_read(text, Err(QuantityFault::BadText)), "{text}");
+    }
+}
+
+/// The front of a text, what it goes on with, its end, and what is read of it.
+const LONG: &[(&str, &str, &str, Reading)] = &[
+    ("", " ", "1V", Ok((-1, 1, 1, 1, 1))),
+    ("", "0", "1V", Ok((-1, 1, 1, 1, 1))),
+    ("1", "0", "V", Err(QuantityFault::Wide)),
+    ("1 ", "V", "", Err(QuantityFault::UnknownUnit)),
+    ("1", " ", "", Ok((0, 1, 1, 1, 1))),
+    ("1", "-", "", Err(QuantityFault::BadText)),
+];
+
+/// Whether a text with its middle so many times is read so.
+fn is_read_long(
+    alloc: Global,
+    ends: (&str, &str),
+    more: &str,
+    want: Reading,
+) -> Result<bool, AllocError> {
+    let mut text = String::from_str(alloc, ends.0)?;
+    for _ in 0..100_000 {
+        text.push_str(more)?;
+    }
+    text.push_str(ends.1)?;
+    Ok(is_read(text.as_str(), want))
 }
 
 #[test]
 fn long_texts(rt: HostRuntime) -> Result<(), Fail> {
-    for (first, more, last, want) in [
-        ("", " ", "1V", Ok((-1, 1, 1, 1, 1))),
-        ("", "0", "1V", Ok((-1, 1, 1, 1, 1))),
-        ("1", "0", "V", Err(QuantityFault::Wide)),
-        ("1 ", "V", "", Err(QuantityFault::UnknownUnit)),
-        ("1", " ", "", Ok((0, 1, 1, 1, 1))),
-        ("1", "-", "", Err(QuantityFault::BadText)),
-    ] {
-        let mut text = String::new(rt.alloc());
-        text.push_str(first)?;
-        for _ in 0..100_000 {
-            text.push_str(more)?;
-        }
-        text.push_str(last)?;
-        assert_eq!(rt; reading(text.as_str()), want, "{first}{more}{last}");
+    for (first, more, last, want) in LONG {
+        assert!(rt;
+            is_read_long(rt.alloc(), (first, last), more, *want)?,
+            "{first}{more}{last}"
+        );
     }
     Ok(())
 }
