@@ -30,7 +30,7 @@ use Rattle.ato_outside.specs.Files.{Files}
 use Rattle.ato_words.specs.Words.{IsCheck}
 use Rattle.ato_words.specs.declared.words.Check.{Check}
 use Rattle.ato_words.specs.declared.words.Task.TheVariants as tasks
-use Rattle.ato_build.specs.Answers.{IsAnswer}
+use Rattle.ato_build.specs.Answers.{IsTrueAnswer}
 use Rattle.ato_build.specs.Causes.{IsVerdict}
 use Rattle.ato_build.specs.Found.{Found, Whole, HasFile}
 use Rattle.ato_build.specs.Headline.{Means, Judges}
@@ -38,7 +38,7 @@ use Rattle.ato_build.specs.Boards.{Board, board_of, IsProblemOf}
 use Rattle.ato_build.specs.Entry.{source_limit, GivesBlock}
 use Rattle.ato_build.specs.Input.{catalogue_limit, certificate_limit, Input, HasInput, StandsInCertificate}
 use Rattle.ato_build.specs.InputStages.{WithBoard, WithCertificate, GivesBoard}
-use Rattle.ato_build.specs.Judgements.{Says, IsJudged, IsJudgement}
+use Rattle.ato_build.specs.Judgements.{SaysOfBoard, IsJudged, IsJudgement}
 use Rattle.ato_build.specs.Projects.{checked_project}
 use Rattle.ato_build.specs.Readings.{AreSources}
 use Rattle.ato_build.specs.Texts.{fault_text, files_with, read_fault_text, rejected_text, said_text}
@@ -92,7 +92,7 @@ rejected_judged problem bytes line (Err e) none first status said = tt
 rejected_judged problem bytes line (Ok answer) none first status said = λ small. subst (λ s. IsJudged problem bytes s (said_text answer.said)) (sym status) (none small, first, said)
 
 -- what a certificate says of its problem it says of the board
-says_so : (board : Board) (problem : Problem) (proof : Proof) → IsProblemOf board problem → certs.Says problem proof → Says board proof
+says_so : (board : Board) (problem : Problem) (proof : Proof) → IsProblemOf board problem → certs.Says problem proof → SaysOfBoard board proof
 says_so board problem (Built pick boxes) is good = good_pick (part_of board.block.lines) board.contents problem pick is good
 says_so board problem (Tree Refuted tree) is none = no_good_pick (part_of board.block.lines) board.contents problem is none
 
@@ -166,7 +166,7 @@ module _ (words : List (List ℕ)) (held tray : Option Files) (check : Check) (p
 
   -- a fault in it
   pub certificate_refused : (found : Found) (f : Fault) (source : List ℕ) (result : Result Answer NoMemory) → HasFile held certificate_limit cert found → StandsInCertificate (tasks.Check check) found f → source ≡ sources.source
-      → IfOk result (λ answer. answer.status ≡ answers.Fault f) → IfOk result (λ answer. said_text answer.said ≡ fault_text (files_with project source) f) → IsAnswer words held tray tray result
+      → IfOk result (λ answer. answer.status ≡ answers.Fault f) → IfOk result (λ answer. said_text answer.said ≡ fault_text (files_with project source) f) → IsTrueAnswer words held tray tray result
   certificate_refused found f source (Err e) has stands is status said = refl
   certificate_refused found f source (Ok answer) has stands is status said =
       subst (λ s. Means words held tray tray s (said_text answer.said)) (sym status) (record {
@@ -180,7 +180,7 @@ module _ (words : List (List ℕ)) (held tray : Option Files) (check : Check) (p
       })
 
   -- it was not read
-  pub certificate_unread : (result : Result Answer NoMemory) → IfOk result (λ answer. answer.status ≡ answers.ReadFault) → IfOk result (λ answer. said_text answer.said ≡ read_fault_text cert) → IsAnswer words held tray tray result
+  pub certificate_unread : (result : Result Answer NoMemory) → IfOk result (λ answer. answer.status ≡ answers.ReadFault) → IfOk result (λ answer. said_text answer.said ≡ read_fault_text cert) → IsTrueAnswer words held tray tray result
   certificate_unread (Err e) status said = refl
   certificate_unread (Ok answer) status said =
       let found = some_file held certificate_limit cert in
@@ -216,7 +216,7 @@ module _ (words : List (List ℕ)) (held tray : Option Files) (check : Check) (p
 
   pub certificate_judged : (bytes : List ℕ) (result : Result Answer NoMemory) → HasFile held certificate_limit cert (Whole bytes) → IfOk result (λ answer. IsVerdict answer.status)
       → IfOk result (λ answer. (contents : Contents) → ShowsContents sources.catalog contents → IsJudgement (board_of sources.block contents) bytes answer.status (said_text answer.said))
-      → IsAnswer words held tray tray result
+      → IsTrueAnswer words held tray tray result
   certificate_judged bytes (Err e) has verdict judgement = refl
   certificate_judged bytes (Ok answer) has verdict judgement =
       judged_means bytes answer.status (said_text answer.said) verdict (judges bytes answer.status (said_text answer.said) has judgement)

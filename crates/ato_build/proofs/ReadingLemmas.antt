@@ -19,7 +19,7 @@ use Rattle.ato_build.specs.Found.{Found, Missing, TooLong, Whole, found_of, HasF
 use Rattle.ato_base.specs.Stages.{arrived, onward}
 use Rattle.ato_build.specs.Headline.{Means}
 use Rattle.ato_build.specs.Input.{Input, StandsInCatalogue, catalogue_limit, certificate_limit, HasCertificate, HasInput}
-use Rattle.ato_build.specs.InputStages.{Stage, Started, WithBlock, Reads, IsReached, Stands}
+use Rattle.ato_build.specs.InputStages.{Stage, Started, WithBlock, next_file, IsReached, Stands}
 use Rattle.ato_build.specs.Projects.{project_of}
 use Rattle.ato_build.specs.Readings.{EndsEarly, EndsWith, IsFaultEnd, IsReading}
 use Rattle.ato_build.specs.Texts.{fault_text, files_with, read_fault_text, said_text}
@@ -150,7 +150,7 @@ module _ (held : Option Files) (limit : ℕ) (name file : List ℕ) (fetched : F
 -- ---- a file that was not read
 
 pub unread_means : (held : Option Files) (words : List (List ℕ)) (task : Task) (tray : Option Files) (file : List ℕ) (answer : Answer) (input : Input) (stage : Stage) → IsJob words task → HasInput held task input
-    → IsReached task input stage → Reads task stage ≡ Some file → answer.status ≡ answers.ReadFault → said_text answer.said ≡ read_fault_text file → Means words held tray tray answer.status (said_text answer.said)
+    → IsReached task input stage → next_file task stage ≡ Some file → answer.status ≡ answers.ReadFault → said_text answer.said ≡ read_fault_text file → Means words held tray tray answer.status (said_text answer.said)
 unread_means held words task tray file answer input stage job read reached reads status said =
     subst (λ s. Means words held tray tray s (said_text answer.said)) (sym status) (record {
       task = task;

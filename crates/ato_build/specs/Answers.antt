@@ -12,9 +12,9 @@ use Rattle.ato_build.specs.declared.status.Status.{Status}
 use Rattle.ato_build.specs.declared.status.Status.TheVariants as answers
 
 -- The answer before it is printed means what the headline says of its status. For want of memory nothing is put.
-abbrev pub IsAnswer : List (List ℕ) → Option Files → Option Files → Option Files → Result Answer NoMemory → Type 0
-IsAnswer words held old new (Ok answer) = Means words held old new answer.status (said_text answer.said)
-IsAnswer words held old new (Err e) = new ≡ old
+abbrev pub IsTrueAnswer : List (List ℕ) → Option Files → Option Files → Option Files → Result Answer NoMemory → Type 0
+IsTrueAnswer words held old new (Ok answer) = Means words held old new answer.status (said_text answer.said)
+IsTrueAnswer words held old new (Err e) = new ≡ old
 
 -- The answer has this status and text.
 abbrev pub Is : Answer → Status → List ℕ → Type 0

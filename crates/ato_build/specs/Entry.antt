@@ -64,6 +64,6 @@ StandsInEntry project (Whole source) f =
     ⊎ ((block : Block) × IsFile source (Some block) × (block.name ≡ project.block) × IsLineFault block f)
 
 -- Why the entry gives no block: a fault that stands, or want of memory.
-abbrev pub IsRefused : Project → Found → Refusal → Type 0
-IsRefused project entry (refusals.Fault f) = StandsInEntry project entry f
-IsRefused project entry refusals.NoMemory = Unit {0}
+abbrev pub IsEntryRefusal : Project → Found → Refusal → Type 0
+IsEntryRefusal project entry (refusals.Fault f) = StandsInEntry project entry f
+IsEntryRefusal project entry refusals.NoMemory = Unit {0}

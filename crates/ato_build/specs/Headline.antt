@@ -7,7 +7,7 @@ use Rattle.ato_outside.specs.declared.tray.TrayError.TheVariants as tray_errors
 use Rattle.ato_build.specs.Boards.{Board}
 use Rattle.ato_build.specs.Decisions.{IsDecision}
 use Rattle.ato_build.specs.Input.{Input, HasInput}
-use Rattle.ato_build.specs.InputStages.{Stage, Reads, IsReached, Stands, GivesBoard, GivesCertificate}
+use Rattle.ato_build.specs.InputStages.{Stage, next_file, IsReached, Stands, GivesBoard, GivesCertificate}
 use Rattle.ato_build.specs.Judgements.{IsJudgement}
 use Rattle.ato_build.specs.Outputs.{PutsInOrder}
 use Rattle.ato_build.specs.Printing.{Appends, AppendsPrefix}
@@ -75,7 +75,7 @@ pub record IsUnread (words : List (List ℕ)) (held old new : Option Files) (tex
   pub stage : Stage
   pub reached : IsReached task input stage
   pub file : List ℕ
-  pub reads : Reads task stage ≡ Some file
+  pub reads : next_file task stage ≡ Some file
   pub nothing_put : new ≡ old
   pub text_is : text ≡ read_fault_text file
 

@@ -22,11 +22,11 @@ pub data Stage : Type 0 where
   WithCertificate : Board → List ℕ → Stage
 
 -- the name of the file that a stage reads next, where it reads one
-abbrev pub Reads : Task → Stage → Option (List ℕ)
-Reads task Started = Some (project_of task).file
-Reads task (WithBlock block) = Some (project_of task).catalogue
-Reads (tasks.Check check) (WithBoard board) = Some check.cert
-Reads task stage = None
+abbrev pub next_file : Task → Stage → Option (List ℕ)
+next_file task Started = Some (project_of task).file
+next_file task (WithBlock block) = Some (project_of task).catalogue
+next_file (tasks.Check check) (WithBoard board) = Some check.cert
+next_file task stage = None
 
 -- The stage leads to the next one: the entry gives the block, the catalogue the rest of the board, and a check goes on to the bytes of
 -- its certificate.

@@ -15,16 +15,16 @@ use Rattle.ato_build.specs.declared.status.Status.{Status}
 use Rattle.ato_build.specs.declared.status.Status.TheVariants as answers
 
 -- What a certificate says of a board: that its pick is good, or that no pick is.
-abbrev pub Says : Board → Proof → Type 0
-Says board (Built pick boxes) = IsGood board pick
-Says board (Tree Refuted tree) = NoGood board
+abbrev pub SaysOfBoard : Board → Proof → Type 0
+SaysOfBoard board (Built pick boxes) = IsGood board pick
+SaysOfBoard board (Tree Refuted tree) = NoGood board
 
 -- The bytes are the text of a valid certificate, whoever wrote it. What it says is so, and its verdict is printed.
 pub record Accepts (board : Board) (bytes text : List ℕ) : Type 0 where
   pub cert : Cert
   pub bytes_are : bytes ≡ cert_text cert
   pub valid : IsValidOn board cert
-  pub says : Says board cert.proof
+  pub says : SaysOfBoard board cert.proof
   pub text_is : text ≡ accepted_text (proof_word cert.proof)
 
 -- The bytes are the text of no valid certificate.

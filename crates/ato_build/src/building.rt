@@ -3,7 +3,7 @@ ghost use Rattle.std.specs.Prelude.{◌≡◌, Option, List, ℕ, Err, IfOk, str
 ghost use Rattle.ato_base.specs.declared.faults.Fault.{Fault};
 ghost use Rattle.ato_outside.specs.Causes.{Counts, Rose};
 ghost use Rattle.ato_outside.specs.Files.{Files};
-ghost use Rattle.ato_build.specs.Answers.{IsAnswer, IsStopped, IsPutStatus};
+ghost use Rattle.ato_build.specs.Answers.{IsTrueAnswer, IsStopped, IsPutStatus};
 ghost use Rattle.ato_build.specs.Causes.{IsEnd, HasStatus, CountsReads};
 ghost use Rattle.ato_build.specs.Headline.{Means, Decides};
 ghost use Rattle.ato_build.specs.Projects.{built_project, options_of};
@@ -69,7 +69,7 @@ pub(crate) fn build_project<S: Shelf, T: Tray>(
 ) -> Result<Answer, NoMemory>
     requires { options.now.steps ≡ 20000 }
     ensures means { (words : List (List ℕ)) → (build : Build) → IsBuild words build → built_project build ≡ project.now → options_of build ≡ options.now
-        → IsAnswer words (S.files shelf.old) (T.files tray.old) (T.files tray.new) result }
+        → IsTrueAnswer words (S.files shelf.old) (T.files tray.old) (T.files tray.new) result }
     ensures same { S.files shelf.new ≡ S.files shelf.old }
     ensures missing { IfOk result (λ answer. (f : Fault) → answer.status ≡ Status.Fault f → f.kind ≡ FaultKind.FileMissing → Rose (S.misses shelf.old) (S.misses shelf.new)) }
     ensures reads { CountsReads (S.faults shelf.old) (S.faults shelf.new) (HasStatus Status.ReadFault result) (result ≡ Err (record {})) }

@@ -11,7 +11,7 @@ ghost use Rattle.ato_cert.specs.Texts.{proof_word};
 ghost use Rattle.ato_first.specs.FirstParts.{HasRanges};
 ghost use Rattle.ato_outside.specs.Causes.{Rose};
 ghost use Rattle.ato_outside.specs.Files.{Files};
-ghost use Rattle.ato_build.specs.Answers.{IsAnswer};
+ghost use Rattle.ato_build.specs.Answers.{IsTrueAnswer};
 ghost use Rattle.ato_build.specs.Boards.{board_of};
 ghost use Rattle.ato_build.specs.Causes.{IsVerdict, HasStatus, CountsReads};
 ghost use Rattle.ato_build.specs.Entry.{GivesBlock};
@@ -132,7 +132,7 @@ fn check_sources<S: Shelf>(
     requires gives { GivesBlock project.now (Whole sources.now.source) sources.now.block }
     requires made { catalogues.IsWellMade sources.now.catalog }
     ensures means { (words : List (List ℕ)) → (check : Check) → (tray : Option Files) → IsCheck words check → checked_project check ≡ project.now → check.cert ≡ cert.now
-        → AreSources (S.files shelf.old) project.now sources.now → IsAnswer words (S.files shelf.old) tray tray result }
+        → AreSources (S.files shelf.old) project.now sources.now → IsTrueAnswer words (S.files shelf.old) tray tray result }
     ensures same { S.files shelf.new ≡ S.files shelf.old }
     ensures missing { IfOk result (λ answer. (f : Fault) → answer.status ≡ Status.Fault f → f.kind ≡ FaultKind.FileMissing → Rose (S.misses shelf.old) (S.misses shelf.new)) }
     ensures reads { CountsReads (S.faults shelf.old) (S.faults shelf.new) (HasStatus Status.ReadFault result) (result ≡ Err (record {})) }
@@ -167,7 +167,7 @@ pub(crate) fn check_project<S: Shelf>(
     shelf: &mut S,
 ) -> Result<Answer, NoMemory>
     ensures means { (words : List (List ℕ)) → (check : Check) → (tray : Option Files) → IsCheck words check → checked_project check ≡ project.now → check.cert ≡ cert.now
-        → IsAnswer words (S.files shelf.old) tray tray result }
+        → IsTrueAnswer words (S.files shelf.old) tray tray result }
     ensures same { S.files shelf.new ≡ S.files shelf.old }
     ensures missing { IfOk result (λ answer. (f : Fault) → answer.status ≡ Status.Fault f → f.kind ≡ FaultKind.FileMissing → Rose (S.misses shelf.old) (S.misses shelf.new)) }
     ensures reads { CountsReads (S.faults shelf.old) (S.faults shelf.new) (HasStatus Status.ReadFault result) (result ≡ Err (record {})) }

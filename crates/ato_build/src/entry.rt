@@ -4,7 +4,7 @@ ghost use Rattle.ato_lexer.specs.FirstForm.{block_text, IsFront};
 ghost use Rattle.ato_first.specs.FirstPoints.{AreKnown};
 ghost use Rattle.ato_first.specs.FirstParts.{HasRanges};
 ghost use Rattle.ato_build.specs.Found.{Whole};
-ghost use Rattle.ato_build.specs.Entry.{word_fault, line_fault, source_limit, GivesBlock, IsLineFault, IsRefused};
+ghost use Rattle.ato_build.specs.Entry.{word_fault, line_fault, source_limit, GivesBlock, IsLineFault, IsEntryRefusal};
 
 use crate::project::Project;
 use ato_base::{Fault, FaultKind, FileId, List, NameTable, NoMemory, Place, Refusal, Span};
@@ -62,7 +62,7 @@ fn first_fault(alloc: Global, block: &Block) -> Result<Option<Fault>, NoMemory>
 pub(crate) fn block_of(alloc: Global, project: &Project, source: &[u8]) -> Result<Block, Refusal>
     requires { length source.now ≤ source_limit }
     ensures gives { IfOk result (GivesBlock project.now (Whole source.now)) }
-    ensures refused { IfErr result (IsRefused project.now (Whole source.now)) }
+    ensures refused { IfErr result (IsEntryRefusal project.now (Whole source.now)) }
 {
     let mut names = NameTable::new(alloc)?;
     let tokens = lex(alloc, source, ENTRY_FILE, &mut names)?;

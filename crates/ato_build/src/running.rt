@@ -60,7 +60,8 @@ pub fn run<S: Shelf, T: Tray, O: Sink>(
     ensures sink_kept { O.faults out.old < O.faults out.new → result ≡ Status.WriteFault }
     ensures shelf_kept { S.faults shelf.old < S.faults shelf.new → EndsOutside result }
 
-    // Where memory and the outside do not fail, the words and the files decide the answer.
+    // Where memory and the outside do not fail, the words and the files decide the answer. This and all below follows from the
+    // clauses above: words are one task at most, and an input has one board or one fault at most.
     ensures usage_where { IsNoJob (texts words.now.items) → (result ≡ Status.Usage) ⊎ (result ≡ Status.NoMemory) ⊎ (result ≡ Status.WriteFault) }
     ensures fault_where { IfSome (S.files shelf.old) (λ files. (task : Task) (f : Fault) → IsJob (texts words.now.items) task
         → Stands task (input_of files task) f → (result ≡ Status.Fault f) ⊎ EndsOutside result) }
@@ -85,7 +86,7 @@ pub fn run<S: Shelf, T: Tray, O: Sink>(
         → ¬ Rose (S.faults shelf.old) (S.faults shelf.new) → ¬ Rose (T.faults tray.old) (T.faults tray.new) → ¬ Rose (O.faults out.old) (O.faults out.new)
         → IsDone task result ⊎ (result ≡ Status.NoMemory)) }
 
-    // What never fails is never named.
+    // What never fails is never named: these two follow from `read` and `write` alone.
     ensures sure_shelf { ((s : S) → S.faults s ≡ 0) → result ≢ Status.ReadFault }
     ensures sure_outputs { ((t : T) → T.faults t ≡ 0) → ((o : O) → O.faults o ≡ 0) → result ≢ Status.WriteFault }
 {

@@ -3,7 +3,7 @@ ghost use Rattle.std.specs.Prelude.{◌≡◌, ◌≤◌, ◌<◌, ◌⊎◌, Op
 ghost use Rattle.ato_base.specs.declared.faults.Fault.{Fault};
 ghost use Rattle.ato_outside.specs.Causes.{Counts, Rose};
 ghost use Rattle.ato_outside.specs.Files.{Files};
-ghost use Rattle.ato_build.specs.Answers.{IsAnswer};
+ghost use Rattle.ato_build.specs.Answers.{IsTrueAnswer};
 ghost use Rattle.ato_build.specs.Causes.{HasStatus, CountsReads};
 ghost use Rattle.ato_build.specs.Headline.{Means};
 ghost use Rattle.ato_build.specs.Texts.{said_text, usage_text};
@@ -38,7 +38,7 @@ fn perform_build<S: Shelf, T: Tray>(
     tray: &mut T,
 ) -> Result<Answer, NoMemory>
     requires { build.steps ≡ 20000 }
-    ensures means { (words : List (List ℕ)) → IsBuild words build → IsAnswer words (S.files shelf.old) (T.files tray.old) (T.files tray.new) result }
+    ensures means { (words : List (List ℕ)) → IsBuild words build → IsTrueAnswer words (S.files shelf.old) (T.files tray.old) (T.files tray.new) result }
     ensures same { S.files shelf.new ≡ S.files shelf.old }
     ensures missing { IfOk result (λ answer. (f : Fault) → answer.status ≡ Status.Fault f → f.kind ≡ FaultKind.FileMissing → Rose (S.misses shelf.old) (S.misses shelf.new)) }
     ensures reads { CountsReads (S.faults shelf.old) (S.faults shelf.new) (HasStatus Status.ReadFault result) (result ≡ Err (record {})) }
@@ -61,7 +61,7 @@ fn perform_build<S: Shelf, T: Tray>(
 
 /// Checks what a check asks for.
 fn perform_check<S: Shelf>(alloc: Global, check: Check, shelf: &mut S) -> Result<Answer, NoMemory>
-    ensures means { (words : List (List ℕ)) → (tray : Option Files) → IsCheck words check → IsAnswer words (S.files shelf.old) tray tray result }
+    ensures means { (words : List (List ℕ)) → (tray : Option Files) → IsCheck words check → IsTrueAnswer words (S.files shelf.old) tray tray result }
     ensures same { S.files shelf.new ≡ S.files shelf.old }
     ensures missing { IfOk result (λ answer. (f : Fault) → answer.status ≡ Status.Fault f → f.kind ≡ FaultKind.FileMissing → Rose (S.misses shelf.old) (S.misses shelf.new)) }
     ensures reads { CountsReads (S.faults shelf.old) (S.faults shelf.new) (HasStatus Status.ReadFault result) (result ≡ Err (record {})) }
@@ -88,7 +88,7 @@ fn perform<S: Shelf, T: Tray>(
     shelf: &mut S,
     tray: &mut T,
 ) -> Result<Answer, NoMemory>
-    ensures means { IsAnswer (texts words.now.items) (S.files shelf.old) (T.files tray.old) (T.files tray.new) result }
+    ensures means { IsTrueAnswer (texts words.now.items) (S.files shelf.old) (T.files tray.old) (T.files tray.new) result }
     ensures same { S.files shelf.new ≡ S.files shelf.old }
     ensures missing { IfOk result (λ answer. (f : Fault) → answer.status ≡ Status.Fault f → f.kind ≡ FaultKind.FileMissing → Rose (S.misses shelf.old) (S.misses shelf.new)) }
     ensures reads { CountsReads (S.faults shelf.old) (S.faults shelf.new) (HasStatus Status.ReadFault result) (result ≡ Err (record {})) }

@@ -56,9 +56,9 @@ IsRead (Ok contents) catalog = ShowsContents catalog contents
 IsRead (Err fault) catalog = ⊥
 
 -- The refusal is the fault that stands here, or want of memory.
-abbrev pub IsUnread : Result Contents Fault → Refusal → Type 0
-IsUnread right (refusal.Fault found) = right ≡ Err found
-IsUnread right refusal.NoMemory = ⊤
+abbrev pub IsRefusalOf : Result Contents Fault → Refusal → Type 0
+IsRefusalOf right (refusal.Fault found) = right ≡ Err found
+IsRefusalOf right refusal.NoMemory = ⊤
 
 -- The refusal is this fault, or want of memory.
 abbrev pub Explains : Option Fault → Refusal → Type 0
@@ -71,4 +71,4 @@ IsCatalogue bytes = IsRead (contents_of bytes)
 
 -- The refusal is the first fault in the bytes, or want of memory.
 abbrev pub IsRefused : List ℕ → Refusal → Type 0
-IsRefused bytes = IsUnread (contents_of bytes)
+IsRefused bytes = IsRefusalOf (contents_of bytes)

@@ -3,7 +3,7 @@ ghost use Rattle.std.specs.Prelude.{ℕ, List, ◌≡◌, ◌<◌, ◌≤◌, �
 ghost use Rattle.std.specs.Str.{bytes_eq};
 ghost use Rattle.csv.specs.Records.{fields_of};
 ghost use Rattle.ato_base.specs.declared.faults.Refusal.TheVariants as refusal;
-ghost use Rattle.ato_catalog.specs.Catalogue.{Explains, IsCatalogue, IsRead, IsRefused, IsUnread, ShowsRow, ShowsRows};
+ghost use Rattle.ato_catalog.specs.Catalogue.{Explains, IsCatalogue, IsRead, IsRefused, IsRefusalOf, ShowsRow, ShowsRows};
 ghost use Rattle.ato_catalog.specs.Contents.{contents_in, fault_at, first_fault};
 ghost use Rattle.ato_catalog.specs.Limits.{most_attributes, most_rows};
 ghost use Rattle.ato_catalog.specs.Parts.{has_part, next_fault};
@@ -104,7 +104,7 @@ fn read_rows(
 #[tactic(auto, unfolding(crate::specs::Contents::contents_in))]
 fn from_records(alloc: Global, records: &[ByteRecord]) -> Result<Catalog, Refusal>
     ensures catalogue { IfOk result (IsRead (contents_in (map fields_of records.now))) }
-    ensures fault { IfErr result (IsUnread (contents_in (map fields_of records.now))) }
+    ensures fault { IfErr result (IsRefusalOf (contents_in (map fields_of records.now))) }
 {
     match records {
         [] => Err(fault(alloc, FaultKind::NoHeader, 0, 0)),

@@ -1,5 +1,5 @@
 //! The check of a certificate.
-ghost use Rattle.std.specs.Prelude.{◌<◌, ◌^◌, length, IfOk, IsOk, MatchOption};
+ghost use Rattle.std.specs.Prelude.{◌<◌, ◌^◌, length, IfOk, MatchOption};
 ghost use Rattle.ato_cert.specs.Problems.{IsWellMade};
 ghost use Rattle.ato_cert.specs.Readable.{IsReadable};
 ghost use Rattle.ato_cert.specs.Texts.{cert_text};
@@ -70,14 +70,13 @@ fn bad_line(problem: &Problem, cert: &Cert) -> Option<u32>
 ///
 /// It is accepted exactly where it is valid, and else rejected with its first bad line: the first line
 /// of the proof that is not justified, else the second line where the verdict wants a check that is not
-/// listed, and else the third, where there are more nodes than steps. It takes no memory, never errs,
-/// and ends in time linear in the lines and the rows.
+/// listed, and else the third, where there are more nodes than steps. It ends in time linear in the lines
+/// and the rows, and only want of memory is an error.
 pub fn check(_alloc: Global, problem: &Problem, cert: &Cert) -> Result<Checked, NoMemory>
     requires made { IsWellMade problem.now }
     requires readable { IsReadable problem.now cert.now }
     requires size { length (cert_text cert.now) < 2 ^ 32 }
     ensures right { IfOk result (IsRight problem.now cert.now) }
-    ensures answers { IsOk result }
 {
     match bad_line(problem, cert) {
         None => Ok(Checked::Accepted),

@@ -1,6 +1,6 @@
 use Rattle.std.proofs.Common.{subst, sym, Ok}
 use Rattle.ato_words.specs.declared.words.Task.TheVariants as tasks
-use Rattle.ato_build.specs.Answers.{IsAnswer}
+use Rattle.ato_build.specs.Answers.{IsTrueAnswer}
 use Rattle.ato_build.specs.Readings.{AreSources, IsReading, EndsWith}
 use Rattle.ato_build.specs.declared.status.Status.TheVariants as answers
 use Rattle.ato_build.proofs.ReadingLemmas.{missed_since, counts_after}
@@ -16,7 +16,7 @@ returns-in-Ended-clause-missing g c = λ f status kind.
 
 pub returns-in-Ready-clause-means : goal.returns-in-Ready-clause-means
 returns-in-Ready-clause-means g c = λ words check tray job same named.
-    subst (λ h. IsAnswer words h tray tray c.check_sources.result) c.in_ok-answer.ensures.same
+    subst (λ h. IsTrueAnswer words h tray tray c.check_sources.result) c.in_ok-answer.ensures.same
     (c.check_sources.ensures.means words check tray job same named
     (subst (λ h. AreSources h c.args.project.now c.in-Ready.sources) (sym c.in_ok-answer.ensures.same)
     (subst (IsReading (g.S.Shelf.files c.args.shelf.now) c.args.project.now) c.in-Ready.is c.in_ok-answer.ensures.reading)))
