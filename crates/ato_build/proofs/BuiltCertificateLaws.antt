@@ -85,10 +85,10 @@ put_certificate : (options : Options) (board : Board) (status : Status) (outputs
 put_certificate options board answers.Built outputs text output (pick, d) h named =
     elim (cases (net_output options d.puts.list) output (cert_output options d.cert ∷ []) (subst (λ l. Contains l output) d.puts.outputs_are h)) [
       | inl net ↦ absurd (endings options.out (ap (λ (o : Output). o.name) (sym net) ∙ named))
-      | inr more ↦ record { cert = d.cert; valid = d.cert_is.valid; bytes = ap (λ (o : Output). o.bytes) (only (cert_output options d.cert) output more) }
+      | inr more ↦ record { cert = d.cert; valid = d.certified.valid; bytes = ap (λ (o : Output). o.bytes) (only (cert_output options d.cert) output more) }
     ]
 put_certificate options board answers.Refuted outputs text output d h named =
-    record { cert = d.cert; valid = d.cert_is.valid; bytes = ap (λ (o : Output). o.bytes) (only (cert_output options d.cert) output (subst (λ l. Contains l output) d.puts.outputs_are h)) }
+    record { cert = d.cert; valid = d.certified.valid; bytes = ap (λ (o : Output). o.bytes) (only (cert_output options d.cert) output (subst (λ l. Contains l output) d.puts.outputs_are h)) }
 put_certificate options board status outputs text output d h named = absurd d
 
 -- ---- the check of it

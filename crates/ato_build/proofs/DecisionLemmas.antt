@@ -203,9 +203,7 @@ built_decided options block catalog problem cert pick numbers boxes (Ok d) is va
         good = good_pick (part_of block.lines) contents problem pick (is contents shows) (first_is_good problem pick first);
         first = first_pick (part_of block.lines) contents problem pick (is contents shows) first;
         cert = cert;
-        cert_is = record { valid = record { problem = problem; is_problem = is contents shows; valid = valid }; steps_are = steps };
-        boxes = boxes;
-        proof = built;
+        certified = record { valid = record { problem = problem; is_problem = is contents shows; valid = valid }; steps_are = steps; boxes = boxes; proof = built };
         puts = subst (λ p. PutsBuilt options (board_of block contents) p cert d.outputs.items (string_bytes d.summary)) same (puts contents shows);
       },
     )
@@ -222,9 +220,7 @@ refuted_decided options block catalog problem cert verdicts.Refuted tree (Ok d) 
     subst (λ s. IsDecision options (board_of block contents) s d.outputs.items (string_bytes d.summary)) (sym status) (record {
       none_good = no_good_pick (part_of block.lines) contents problem (is contents shows) none;
       cert = cert;
-      cert_is = record { valid = record { problem = problem; is_problem = is contents shows; valid = valid }; steps_are = steps };
-      tree = tree;
-      proof = refuted;
+      certified = record { valid = record { problem = problem; is_problem = is contents shows; valid = valid }; steps_are = steps; tree = tree; proof = refuted };
       puts = puts contents;
     })
 

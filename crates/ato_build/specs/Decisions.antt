@@ -23,10 +23,19 @@ net_output options list = record { name = options.out ++ codes ".net"; bytes = l
 abbrev pub cert_output : Options → Cert → Output
 cert_output options cert = record { name = options.out ++ codes ".cert"; bytes = cert_text cert }
 
--- The certificate is valid, and was searched for within the steps of the build.
-pub record IsCertificate (options : Options) (board : Board) (cert : Cert) : Type 0 where
+-- The certificate is valid for the pick, and was searched for within the steps of the build.
+pub record CertifiesPick (options : Options) (board : Board) (pick : List ℕ) (cert : Cert) : Type 0 where
   pub valid : IsValidOn board cert
   pub steps_are : cert.steps ≡ options.steps
+  pub boxes : List BoxTree
+  pub proof : cert.proof ≡ proofs.Built pick boxes
+
+-- The certificate is valid for there being no good pick, and was searched for within the steps of the build.
+pub record CertifiesNone (options : Options) (board : Board) (cert : Cert) : Type 0 where
+  pub valid : IsValidOn board cert
+  pub steps_are : cert.steps ≡ options.steps
+  pub tree : PickTree
+  pub proof : cert.proof ≡ proofs.Tree verdicts.Refuted tree
 
 -- What is put and printed for a pick: the net list with it, and its certificate.
 pub record PutsBuilt (options : Options) (board : Board) (pick : List ℕ) (cert : Cert) (outputs : List Output) (text : List ℕ) : Type 0 where
@@ -42,24 +51,20 @@ pub record PutsRefuted (options : Options) (board : Board) (cert : Cert) (output
   pub outputs_are : outputs ≡ cert_output options cert ∷ []
   pub text_is : text ≡ summary_text (codes "refuted") list (slots_of board) (nodes cert.proof)
 
--- The pick is good, and the first good one. Its net list is put, with a valid certificate of the pick.
+-- The pick is good, and the first good one. Its net list is put, with the text of a certificate of the pick.
 pub record BuildsPick (options : Options) (board : Board) (pick : List ℕ) (outputs : List Output) (text : List ℕ) : Type 0 where
   pub good : IsGood board pick
   pub first : IsFirstGood board pick
   pub cert : Cert
-  pub cert_is : IsCertificate options board cert
-  pub boxes : List BoxTree
-  pub proof : cert.proof ≡ proofs.Built pick boxes
   pub puts : PutsBuilt options board pick cert outputs text
+  pub certified : CertifiesPick options board pick cert
 
--- No pick is good. A valid certificate of this is put.
+-- No pick is good. The text of a certificate of this is put.
 pub record RefutesPicks (options : Options) (board : Board) (outputs : List Output) (text : List ℕ) : Type 0 where
   pub none_good : NoGood board
   pub cert : Cert
-  pub cert_is : IsCertificate options board cert
-  pub tree : PickTree
-  pub proof : cert.proof ≡ proofs.Tree verdicts.Refuted tree
   pub puts : PutsRefuted options board cert outputs text
+  pub certified : CertifiesNone options board cert
 
 -- What a build of the board decides, by the status that it ends with where all goes well.
 abbrev pub IsDecision : Options → Board → Status → List Output → List ℕ → Type 0
