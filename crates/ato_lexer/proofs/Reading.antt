@@ -1,6 +1,6 @@
 -- Lines that are read one by one, with their tokens.
 use Rattle.std.proofs.Common.{◌≡◌, ℕ, ◌+◌, ◌-◌, ◌<◌, ◌==◌, Bool, true, false, ◌&&◌, ◌||◌, not, List, [], ◌∷◌, ◌++◌, length, ap, sym, ◌∙◌, refl, arith, append_assoc, append-nil, length-append, subst, inl, inr}
-use Rattle.std.specs.Prelude.{if◌then◌else◌, All, codes, Some, None}
+use Rattle.std.specs.Prelude.{if◌then◌else◌, All, codes, Option, Some, None, Result, Ok, Err, OnOk}
 use Rattle.std.proofs.lemmas.List.Elements.{All-nil, All-cons, All-head, All-tail, All-push, All-append, All-take, All-drop, All-weaker}
 use Rattle.std.proofs.Math.Seq.{take-append_seam, drop-append_seam}
 use Rattle.ato_base.specs.declared.keywords.Keyword.TheVariants as words
@@ -10,9 +10,9 @@ use Rattle.ato_base.specs.declared.places.FileId.{FileId}
 use Rattle.ato_base.specs.declared.tokens.Token.{Token}
 use Rattle.ato_base.specs.declared.faults.Refusal.{Refusal}
 use Rattle.ato_base.specs.declared.faults.Refusal.TheVariants as refusals
-use Rattle.ato_lexer.specs.FirstForm.{lined, end_text, line_text, lines_text, head_text, block_text, is_point, is_end, is_line, is_ascii_name, is_short_number, NoLine, NoHead, bad_line}
-use Rattle.ato_lexer.specs.FirstTokens.{point_names, end_names, line_names, point_tokens, end_tokens, words_tokens, line_tokens, lines_tokens, label_token, name_token, number_token, range_tokens, token, head_tokens, last_tokens, AreTokens, IsRefused, syntax_fault}
-use Rattle.ato_base.specs.NameTable.{IsHeld, Extends}
+use Rattle.ato_lexer.specs.FirstForm.{lined, end_text, line_text, lines_text, head_text, block_text, is_point, is_end, is_line, is_ascii_name, is_short_number, NoLine, NoHead, IsFile, bad_line}
+use Rattle.ato_lexer.specs.FirstTokens.{point_names, end_names, line_names, file_names, point_tokens, end_tokens, words_tokens, line_tokens, lines_tokens, label_token, name_token, number_token, range_tokens, token, head_tokens, last_tokens, AreTokens, IsRefused, syntax_fault}
+use Rattle.ato_base.specs.NameTable.{with_names, IsHeld, Extends}
 use Rattle.ato_lexer.specs.Statements.{point_of, end_of, line_of, IsPointText, IsEndText, IsStatement, words_text, AreRead, IsWholeFront}
 use Rattle.ato_lexer.specs.declared.first_form.Point.{Point}
 use Rattle.ato_lexer.specs.declared.first_form.Point.TheVariants.{Signal, Pin}
@@ -30,7 +30,10 @@ use Rattle.ato_lexer.specs.declared.statements.EndText.{EndText}
 use Rattle.ato_lexer.specs.declared.statements.EndText.TheVariants as ends
 use Rattle.ato_lexer.specs.declared.statements.Statement.{Statement}
 use Rattle.ato_lexer.specs.declared.statements.Statement.TheVariants as statements
-use Rattle.ato_base.proofs.NameTableLaws.{held_number, held_more}
+use Rattle.ato_base.proofs.NameTableLaws.{held_number, held_more, with_names-append}
+use Rattle.std.specs.List.{flat_map}
+use Rattle.std.proofs.lemmas.Grind.{flat_map-append}
+use Rattle.ato_lexer.proofs.FirstFormLaws.{one_file}
 use Rattle.ato_lexer.proofs.FirstFormLemmas.{indented, no_next, text_more, are_more}
 use Rattle.ato_lexer.proofs.BadLineLemmas.{whole_file, bad_line_within}
 
@@ -231,6 +234,28 @@ read_more file at bytes rest more names new before tokens after lines line read 
           ∙ ap (λ t. before ++ t) (sym (tokens_push new file at lines line));
       held = All-push (all new) lines line kept held;
     }
+
+-- the names that lines mention, with one more line
+pub mentioned_more : (old names new : List (List ℕ)) (lines : List Line) (line : Line) → names ≡ with_names old (flat_map line_names lines) → new ≡ with_names names (line_names line)
+    → new ≡ with_names old (flat_map line_names (lines ++ line ∷ []))
+mentioned_more old names new lines line before more =
+    more ∙ ap (λ t. with_names t (line_names line)) before ∙ sym (with_names-append old (flat_map line_names lines) (line_names line))
+    ∙ ap (with_names old) (sym (flat_map-append line_names lines (line ∷ []) ∙ ap (λ l. flat_map line_names lines ++ l) (append-nil (line_names line))))
+
+-- the names of a whole file, which a text is at most one of
+pub file_mentioned : (old head new : List (List ℕ)) (name bytes : List ℕ) (lines : List Line) (block : Option Block) → IsFile bytes (Some (record { name = name; lines = lines })) → head ≡ with_names old (name ∷ [])
+    → new ≡ with_names head (flat_map line_names lines) → IsFile bytes block → new ≡ with_names old (file_names block)
+file_mentioned old head new name bytes lines block is first rest other =
+    rest ∙ ap (λ t. with_names t (flat_map line_names lines)) first ∙ ap (λ b. with_names old (file_names b)) (one_file bytes (Some (record { name = name; lines = lines })) block is other)
+
+-- what holds anyway holds where there is an answer
+pub on_ok : {A E : Type 0} (P : Type 0) (result : Result A E) → P → OnOk result P
+on_ok P (Ok value) h = h
+on_ok P (Err error) h = tt
+
+-- an empty file mentions none
+pub none_mentioned : (old : List (List ℕ)) (bytes : List ℕ) (block : Option Block) → bytes ≡ [] → IsFile bytes block → old ≡ with_names old (file_names block)
+none_mentioned old bytes block none other = ap (λ b. with_names old (file_names b)) (one_file bytes None block none other)
 
 -- the whole file
 

@@ -1,5 +1,6 @@
 -- The tokens of a file of the first form, with their places. It goes once whole files are read.
 use Rattle.std.specs.Prelude.{◌≡◌, ℕ, ◌+◌, ◌*◌, ◌-◌, true, nat_le, if◌then◌else◌, List, [], ◌∷◌, ◌++◌, length, codes, fold, Option, Some, None, All}
+use Rattle.std.specs.List.{flat_map}
 use Rattle.ato_base.specs.NameTable.{number_of, IsHeld}
 use Rattle.ato_base.specs.declared.places.FileId.{FileId}
 use Rattle.ato_base.specs.declared.places.Place.TheVariants as places
@@ -144,6 +145,11 @@ line_names (Join left right) = end_names left ++ end_names right
 line_names (Kind text) = codes "kind" ∷ []
 line_names (Attribute name) = name ∷ codes "dimensionless" ∷ []
 line_names (lines.Assertion a) = a.name ∷ []
+
+-- the names that a file mentions, in their order
+abbrev pub file_names : Option Block → List (List ℕ)
+file_names None = []
+file_names (Some block) = block.name ∷ flat_map line_names block.lines
 
 -- The table holds every name of the file.
 abbrev pub HoldsNames : List (List ℕ) → Option Block → Type 0

@@ -1,9 +1,10 @@
 ghost use Rattle.std.specs.Prelude.{◌≡◌, ◌++◌, ◌+◌, ◌<◌, ◌^◌, [], true, None, IfOk, IfErr, OnOk, length, Option, List, ℕ};
+ghost use Rattle.std.specs.List.{flat_map};
 ghost use Rattle.ato_lexer.specs.declared.first_form.Block.{Block};
 ghost use Rattle.ato_lexer.specs.declared.first_form.Line.{Line};
-ghost use Rattle.ato_lexer.specs.FirstForm.{is_ascii_name, head_text, lined};
-ghost use Rattle.ato_lexer.specs.FirstTokens.{AreTokens, IsRefused, syntax_fault};
-ghost use Rattle.ato_base.specs.NameTable.{Extends};
+ghost use Rattle.ato_lexer.specs.FirstForm.{is_ascii_name, head_text, lined, IsFile};
+ghost use Rattle.ato_lexer.specs.FirstTokens.{line_names, file_names, AreTokens, IsRefused, syntax_fault};
+ghost use Rattle.ato_base.specs.NameTable.{with_names, Extends};
 ghost use Rattle.ato_lexer.specs.Statements.{AreRead, IsWholeFront};
 
 use crate::fronts::Front;
@@ -45,7 +46,8 @@ fn push_lines<'a>(
     requires { place + length bytes.now < 2 ^ 32 }
     ensures read { IfOk result (λ front. (lines : List Line)
         × AreRead file place bytes.now front.rest.now names.new tokens.old tokens.new lines
-        × IsWholeFront place front.found front.rest.now lines) }
+        × IsWholeFront place front.found front.rest.now lines
+        × (names.new ≡ with_names names.old (flat_map line_names lines))) }
     ensures names { Extends names.old names.new }
 {
     let mut front = Front::new(bytes);
@@ -72,6 +74,7 @@ fn lex_block(
     requires name { is_ascii_name name.now ≡ true }
     requires size { 12 + length name.now + length bytes.now < 2 ^ 32 }
     ensures tokens { IfOk result (λ tokens. (block : Option Block) × AreTokens (lined (head_text name.now) ++ bytes.now) file names.new tokens block) }
+    ensures mentioned { OnOk result ((block : Option Block) → IsFile (lined (head_text name.now) ++ bytes.now) block → names.new ≡ with_names names.old (file_names block)) }
     ensures refused { IfErr result (IsRefused (lined (head_text name.now) ++ bytes.now) file) }
     ensures names { Extends names.old names.new }
 {
@@ -101,8 +104,8 @@ fn lex_nothing(alloc: Global, file: FileId) -> Result<List<Token>, Refusal>
 
 /// The tokens of a source file, or the fault of its first line that is not of the form.
 ///
-/// The names that it mentions are put into the table; after a refusal the table may hold more names
-/// than before.
+/// The names that it mentions are put into the table in their order, and no others; after a refusal
+/// the table may hold more names than before.
 pub fn lex(
     alloc: Global,
     text: &[u8],
@@ -111,6 +114,7 @@ pub fn lex(
 ) -> Result<List<Token>, Refusal>
     requires { length text.now < 2 ^ 32 }
     ensures tokens { IfOk result (λ tokens. (block : Option Block) × AreTokens text.now file names.new tokens block) }
+    ensures mentioned { OnOk result ((block : Option Block) → IsFile text.now block → names.new ≡ with_names names.old (file_names block)) }
     ensures refused { IfErr result (IsRefused text.now file) }
     ensures names { Extends names.old names.new }
 {

@@ -1,7 +1,7 @@
 ghost use Rattle.std.specs.Prelude.{◌≡◌, ◌++◌, ◌+◌, ◌<◌, ◌^◌, [], ◌∷◌, length, OnOk, IfOk, All, true};
 ghost use Rattle.ato_lexer.specs.FirstForm.{line_text, is_short_number};
 ghost use Rattle.ato_lexer.specs.FirstTokens.{quoted_token, range_tokens, words_tokens, line_names};
-ghost use Rattle.ato_base.specs.NameTable.{IsHeld, Extends};
+ghost use Rattle.ato_base.specs.NameTable.{with_names, IsHeld, Extends};
 ghost use Rattle.ato_lexer.specs.Statements.{assertion_of, IsAssertionText};
 ghost use Rattle.ato_lexer.specs.declared.first_form.Line.{Line};
 
@@ -39,6 +39,7 @@ pub(crate) fn push_kind(
     ensures stop { IfOk result (λ stop. stop ≡ at + length (line_text (Line.Kind text.now))) }
     ensures pushed { OnOk result (tokens.new ≡ tokens.old ++ words_tokens names.new file at (Line.Kind text.now)) }
     ensures held { OnOk result (All (IsHeld names.new) (line_names (Line.Kind text.now))) }
+    ensures mentioned { OnOk result (names.new ≡ with_names names.old (line_names (Line.Kind text.now))) }
     ensures names { Extends names.old names.new }
 {
     push_name(tokens, names, file, at + 4, "kind")?;
@@ -59,6 +60,7 @@ pub(crate) fn push_attribute(
     ensures stop { IfOk result (λ stop. stop ≡ at + length (line_text (Line.Attribute name.now))) }
     ensures pushed { OnOk result (tokens.new ≡ tokens.old ++ words_tokens names.new file at (Line.Attribute name.now)) }
     ensures held { OnOk result (All (IsHeld names.new) (line_names (Line.Attribute name.now))) }
+    ensures mentioned { OnOk result (names.new ≡ with_names names.old (line_names (Line.Attribute name.now))) }
     ensures names { Extends names.old names.new }
 {
     let stop = push_name(tokens, names, file, at + 4, name)?;
@@ -98,6 +100,7 @@ pub(crate) fn push_assertion(
     ensures stop { IfOk result (λ stop. stop ≡ at + length (line_text (Line.Assertion (assertion_of assertion.entry)))) }
     ensures pushed { OnOk result (tokens.new ≡ tokens.old ++ words_tokens names.new file at (Line.Assertion (assertion_of assertion.entry))) }
     ensures held { OnOk result (All (IsHeld names.new) (line_names (Line.Assertion (assertion_of assertion.entry)))) }
+    ensures mentioned { OnOk result (names.new ≡ with_names names.old (line_names (Line.Assertion (assertion_of assertion.entry)))) }
     ensures names { Extends names.old names.new }
 {
     push_keyword(tokens, file, Keyword::Assert, at + 4, at + 10)?;

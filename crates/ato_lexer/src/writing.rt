@@ -2,7 +2,7 @@ ghost use Rattle.std.specs.Prelude.{◌≡◌, ◌++◌, ◌+◌, ◌<◌, ◌^�
 ghost use Rattle.std.specs.List.{list_all};
 ghost use Rattle.ato_lexer.specs.FirstForm.{is_digit, point_text, end_text, line_text, is_ascii_name, is_short_number};
 ghost use Rattle.ato_lexer.specs.FirstTokens.{token, small_value, name_token, number_token, point_tokens, end_tokens, words_tokens, line_tokens, head_tokens, last_tokens, point_names, end_names, line_names};
-ghost use Rattle.ato_base.specs.NameTable.{IsHeld, Extends};
+ghost use Rattle.ato_base.specs.NameTable.{with_names, IsHeld, Extends};
 ghost use Rattle.ato_lexer.specs.declared.first_form.Line.{Line};
 ghost use Rattle.ato_lexer.specs.declared.first_form.Point.{Point};
 ghost use Rattle.ato_lexer.specs.Statements.{point_of, end_of, line_of, IsPointText, IsEndText, IsStatement};
@@ -53,6 +53,7 @@ pub(crate) fn push_name(
     ensures stop { IfOk result (λ stop. stop ≡ at + length name.now) }
     ensures pushed { OnOk result (tokens.new ≡ tokens.old ++ name_token names.new file at name.now ∷ []) }
     ensures held { OnOk result (IsHeld names.new name.now) }
+    ensures mentioned { OnOk result (names.new ≡ with_names names.old (name.now ∷ [])) }
     ensures names { Extends names.old names.new }
 {
     let number = names.intern(name)?;
@@ -144,6 +145,7 @@ fn push_signal(
     ensures stop { IfOk result (λ stop. stop ≡ at + length (point_text (Point.Signal name.now))) }
     ensures pushed { OnOk result (tokens.new ≡ tokens.old ++ point_tokens names.new file at (Point.Signal name.now)) }
     ensures held { OnOk result (IsHeld names.new name.now) }
+    ensures mentioned { OnOk result (names.new ≡ with_names names.old (name.now ∷ [])) }
     ensures names { Extends names.old names.new }
 {
     push_keyword(tokens, file, Keyword::Signal, at, at + 6)?;
@@ -162,6 +164,7 @@ fn push_named_pin(
     ensures stop { IfOk result (λ stop. stop ≡ at + length (point_text (Point.Pin label.now))) }
     ensures pushed { OnOk result (tokens.new ≡ tokens.old ++ point_tokens names.new file at (Point.Pin label.now)) }
     ensures held { OnOk result (IsHeld names.new label.now) }
+    ensures mentioned { OnOk result (names.new ≡ with_names names.old (label.now ∷ [])) }
     ensures names { Extends names.old names.new }
 {
     push_keyword(tokens, file, Keyword::Pin, at, at + 3)?;
@@ -198,6 +201,7 @@ fn push_point(
     ensures stop { IfOk result (λ stop. stop ≡ at + length (point_text (point_of point.entry))) }
     ensures pushed { OnOk result (tokens.new ≡ tokens.old ++ point_tokens names.new file at (point_of point.entry)) }
     ensures held { OnOk result (All (IsHeld names.new) (point_names (point_of point.entry))) }
+    ensures mentioned { OnOk result (names.new ≡ with_names names.old (point_names (point_of point.entry))) }
     ensures names { Extends names.old names.new }
 {
     match point {
@@ -220,6 +224,7 @@ fn push_end(
     ensures stop { IfOk result (λ stop. stop ≡ at + length (end_text (end_of end.entry))) }
     ensures pushed { OnOk result (tokens.new ≡ tokens.old ++ end_tokens names.new file at (end_of end.entry)) }
     ensures held { OnOk result (All (IsHeld names.new) (end_names (end_of end.entry))) }
+    ensures mentioned { OnOk result (names.new ≡ with_names names.old (end_names (end_of end.entry))) }
     ensures names { Extends names.old names.new }
 {
     match end {
@@ -251,6 +256,7 @@ fn push_join(
     ensures stop { IfOk result (λ stop. stop ≡ at + length (line_text (Line.Join (end_of left.entry) (end_of right.entry)))) }
     ensures pushed { OnOk result (tokens.new ≡ tokens.old ++ words_tokens names.new file at (Line.Join (end_of left.entry) (end_of right.entry))) }
     ensures held { OnOk result (All (IsHeld names.new) (line_names (Line.Join (end_of left.entry) (end_of right.entry)))) }
+    ensures mentioned { OnOk result (names.new ≡ with_names names.old (line_names (Line.Join (end_of left.entry) (end_of right.entry)))) }
     ensures names { Extends names.old names.new }
 {
     let stop = push_end(tokens, names, file, at + 4, left)?;
@@ -272,6 +278,7 @@ fn push_words(
     ensures stop { IfOk result (λ stop. stop ≡ at + length (line_text (line_of statement.entry))) }
     ensures pushed { OnOk result (tokens.new ≡ tokens.old ++ words_tokens names.new file at (line_of statement.entry)) }
     ensures held { OnOk result (All (IsHeld names.new) (line_names (line_of statement.entry))) }
+    ensures mentioned { OnOk result (names.new ≡ with_names names.old (line_names (line_of statement.entry))) }
     ensures names { Extends names.old names.new }
 {
     match statement {
@@ -296,6 +303,7 @@ pub(crate) fn push_statement(
     requires statement { IsStatement statement }
     ensures pushed { OnOk result (tokens.new ≡ tokens.old ++ line_tokens names.new file at (line_of statement.entry)) }
     ensures held { OnOk result (All (IsHeld names.new) (line_names (line_of statement.entry))) }
+    ensures mentioned { OnOk result (names.new ≡ with_names names.old (line_names (line_of statement.entry))) }
     ensures names { Extends names.old names.new }
 {
     let stop = push_words(tokens, names, file, at, statement)?;
@@ -312,6 +320,7 @@ pub(crate) fn push_head(
     requires { 16 + length name.now < 2 ^ 32 }
     ensures pushed { OnOk result (tokens.new ≡ tokens.old ++ head_tokens names.new file name.now) }
     ensures held { OnOk result (IsHeld names.new name.now) }
+    ensures mentioned { OnOk result (names.new ≡ with_names names.old (name.now ∷ [])) }
     ensures names { Extends names.old names.new }
 {
     let size = name.len();

@@ -1,9 +1,11 @@
 use Rattle.std.proofs.Common.{arith, sym, subst, ◌≡◌, ℕ, List, [], None, Option}
 use Rattle.std.proofs.lemmas.Result.{IfOk-weaker}
-use Rattle.ato_lexer.specs.FirstTokens.{AreTokens}
+use Rattle.ato_base.specs.NameTable.{with_names}
+use Rattle.ato_lexer.specs.FirstForm.{IsFile}
+use Rattle.ato_lexer.specs.FirstTokens.{file_names, AreTokens}
 use Rattle.ato_lexer.specs.declared.first_form.Block.{Block}
 use Rattle.ato_lexer.proofs.FirstFormLemmas.{no_head_end, other_head}
-use Rattle.ato_lexer.proofs.Reading.{bad_first, empty_text}
+use Rattle.ato_lexer.proofs.Reading.{bad_first, empty_text, none_mentioned, on_ok}
 use Rattle.ato_lexer.proofs.lexing.lex.Goals as goal
 
 pub returns-in_default-clause-refused : goal.returns-in_default-clause-refused
@@ -20,3 +22,8 @@ returns-then-text-eq0-clause-tokens c =
     (λ tokens. (block : Option Block) × AreTokens c.args.text.now c.args.file c.args.names.now tokens block)
     (λ tokens are. (None, subst (λ bytes. AreTokens bytes c.args.file c.args.names.now tokens None) (sym none) (are c.args.names.now)))
     c.lex_nothing.ensures.tokens
+
+pub returns-then-text-eq0-clause-mentioned : goal.returns-then-text-eq0-clause-mentioned
+returns-then-text-eq0-clause-mentioned c =
+    on_ok ((block : Option Block) → IsFile c.args.text.now block → c.args.names.now ≡ with_names c.args.names.now (file_names block)) c.lex_nothing.result
+    (λ block is. none_mentioned c.args.names.now c.args.text.now block (empty_text c.args.text.now c.if-text-eq0.true) is)

@@ -1,4 +1,8 @@
 use Rattle.std.proofs.lemmas.Result.{on_ok_weaker}
+use Rattle.std.proofs.Common.{ap, sym, ◌∙◌}
+use Rattle.ato_base.specs.NameTable.{with_names}
+use Rattle.ato_base.proofs.NameTableLaws.{with_names-append}
+use Rattle.ato_lexer.specs.FirstTokens.{end_names}
 use Rattle.ato_lexer.specs.Statements.{end_of}
 use Rattle.ato_lexer.proofs.Reading.{join_pushed, join_held}
 use Rattle.ato_lexer.proofs.writing.push_join.Goals as goal
@@ -10,6 +14,12 @@ returns-clause-pushed c =
     c.args.tokens.now c.push_end.new.tokens c.push_mark.new.tokens c.push_end-2.new.tokens
     c.in_ok-stop.ensures.stop c.push_end-2.ensures.names c.in_ok-stop.ensures.held c.in_ok-stop.ensures.pushed c.in_ok-push_mark.ensures)
     c.push_end-2.ensures.pushed
+
+pub returns-clause-mentioned : goal.returns-clause-mentioned
+returns-clause-mentioned c =
+    on_ok_weaker c.push_end-2.result
+    (λ second. second ∙ ap (λ t. with_names t (end_names (end_of c.args.right))) c.in_ok-stop.ensures.mentioned ∙ sym (with_names-append c.args.names.now (end_names (end_of c.args.left)) (end_names (end_of c.args.right))))
+    c.push_end-2.ensures.mentioned
 
 pub returns-clause-held : goal.returns-clause-held
 returns-clause-held c =
