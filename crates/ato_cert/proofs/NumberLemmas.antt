@@ -16,7 +16,7 @@ use Rattle.std.proofs.lemmas.Str.Parse.{digit_from_value}
 use Rattle.std.proofs.Math.Seq.{take-append_seam, drop-append_seam}
 use Rattle.ato_frac.specs.declared.fraction.Frac.{Frac}
 use Rattle.ato_frac.specs.Fractions.{value_of}
-use Rattle.ato_frac.specs.LowestTerms.{signed_of}
+use Rattle.ato_frac.specs.Signed.{signed_of}
 use Rattle.ato_frac.specs.Range.{IsInRange}
 use Rattle.ato_frac.specs.OneNumber.{fraction_same}
 use Rattle.ato_frac.proofs.Ranges.{in_range, as_quotient}

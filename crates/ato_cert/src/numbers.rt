@@ -5,11 +5,11 @@ ghost use Rattle.std.specs.Char.{is_ascii_digit};
 ghost use Rattle.std.specs.Fmt.{decimal};
 ghost use Rattle.ato_frac.specs.declared.fraction.Frac as frac;
 ghost use Rattle.ato_frac.specs.Fractions.{value_of};
-ghost use Rattle.ato_frac.specs.LowestTerms.{signed_of};
+ghost use Rattle.ato_frac.specs.Signed.{signed_of};
 ghost use Rattle.ato_cert.specs.Reading.{NoDigitFirst, fraction_text};
 
 use crate::pieces::after;
-use ato_frac::Frac;
+use ato_frac::{Frac, signed};
 use std::str;
 
 /// The parts of a fraction are below this in size.
@@ -58,18 +58,6 @@ pub(crate) fn number(text: &[u8]) -> Option<(u32, &[u8])>
     match u32::try_from(wide) {
         Ok(small) => Some((small, rest)),
         Err(_) => None,
-    }
-}
-
-/// A size with a sign.
-fn signed(negative: bool, size: u128) -> i128
-    requires { size < 2 ^ 127 }
-    ensures { result ≡ signed_of negative size }
-{
-    if negative {
-        -(size as i128)
-    } else {
-        size as i128
     }
 }
 

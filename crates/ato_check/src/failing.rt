@@ -3,10 +3,10 @@ ghost use Rattle.std.specs.Prelude.{◌≡◌, ◌⊎◌, ◌↔◌, IsTrue, Mat
 ghost use Rattle.ato_rational.specs.Rational.{◌≈ℚ◌, ◌<ℚ◌, zero_ℚ, one_ℚ};
 ghost use Rattle.ato_frac.specs.Fractions.{value_of};
 ghost use Rattle.ato_cert.specs.Selection.{IsBetween, IsSelected, FailsAt};
-ghost use Rattle.ato_check.specs.Hulls.{IsLesser, IsGreater, Widens, SelectsHull, LiesOutside};
+ghost use Rattle.ato_check.specs.Hulls.{Widens, SelectsHull, LiesOutside};
 
 use ato_cert::{Row, Slot};
-use ato_frac::{Exact, Frac};
+use ato_frac::{Exact, Frac, greater, lesser};
 use std::cmp::Ordering;
 
 /// The least and the greatest of some points.
@@ -70,20 +70,6 @@ fn selected(t: &Frac, row: &Row) -> Option<Frac>
     } else {
         None
     }
-}
-
-/// The lesser of two fractions.
-fn lesser(a: Frac, b: Frac) -> Frac
-    ensures { IsLesser a b result }
-{
-    if is_below(&b, &a) { b } else { a }
-}
-
-/// The greater of two fractions.
-fn greater(a: Frac, b: Frac) -> Frac
-    ensures { IsGreater a b result }
-{
-    if is_below(&a, &b) { b } else { a }
 }
 
 /// The hull of some points and one more.

@@ -3,6 +3,7 @@ pub mod Dividing
 pub mod Grammar
 pub mod LowestTerms
 pub mod Multiplying
+pub mod PowerLaws
 pub mod Ranges
 pub mod Readable
 pub mod Rows

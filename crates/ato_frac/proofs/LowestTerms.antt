@@ -4,7 +4,8 @@ use Rattle.std.specs.Int.{IsGcd}
 use Rattle.std.proofs.Math.Nat.{div-mul_cancel, pos_of_dvd_of_pos, eq_of_mul-eq-mul_right}
 use Rattle.std.proofs.lemmas.Int.{unsigned_abs-mul, fits_signed_from_abs, to_z-of_z}
 use Rattle.std.specs.Int.{w128}
-use Rattle.ato_frac.specs.LowestTerms.{signed_of, HasSmallTerms}
+use Rattle.ato_frac.specs.LowestTerms.{HasSmallTerms}
+use Rattle.ato_frac.specs.Signed.{signed_of}
 use Rattle.ato_frac.specs.declared.fraction.Frac.{Frac}
 use Rattle.ato_frac.specs.Coprime.{coprime_quotients, lowest_unique}
 use Rattle.ato_rational.proofs.Ring.{int, nat, opp, ◌⊗◌, same, from_same}

@@ -9,7 +9,7 @@ use mathlib.Core.Bool.{beq}
 use Rattle.ato_frac.specs.declared.fraction.Frac.{Frac}
 use Rattle.ato_frac.specs.Fractions.{value_of, CanMultiply}
 use Rattle.ato_frac.proofs.Ranges.{small_terms}
-use Rattle.ato_frac.specs.LowestTerms.{signed_of}
+use Rattle.ato_frac.specs.Signed.{signed_of}
 use Rattle.ato_rational.specs.Rational.{◌≈ℚ◌, ◌*ℚ◌}
 
 regroup : (a b c d g h : ℕ) → (a * c) * ((b * h) * (d * g)) ≡ ((a * g) * (c * h)) * (b * d)

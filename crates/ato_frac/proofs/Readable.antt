@@ -5,7 +5,8 @@ use Rattle.ato_frac.specs.declared.faults.DecimalFault.TheVariants as too_wide
 use Rattle.ato_frac.specs.declared.fraction.Frac.{Frac}
 use Rattle.ato_frac.specs.Decimals.{IsReadable, Reads, RefusesText}
 use Rattle.ato_frac.specs.Fractions.{value_of}
-use Rattle.ato_frac.specs.Numbers.{Parts, IsNumber, IsScaled, digits_value, signed_value, power_of, number_value, ten_to}
+use Rattle.ato_frac.specs.Numbers.{Parts, IsNumber, IsScaled, digits_value, power_of, number_value, ten_to}
+use Rattle.ato_frac.specs.Signed.{signed_of}
 use Rattle.ato_frac.specs.Scaling.{CanScale}
 use Rattle.ato_frac.specs.Trimmed.{IsTrimmed}
 use Rattle.ato_frac.proofs.Ranges.{in_range}
@@ -89,7 +90,7 @@ module _ (parts : Parts) (m k : ℕ) (trimmed : IsTrimmed (digits_value (parts.w
     scaled_read (Some f) small h = (can_read small h.0, ≈ℚ_trans h.1 (≈ℚ_sym value_at))
 
 -- an exponent of 2^64 or more leaves the limits, whatever digits stand before it
-far : (negative : Bool) (v places k : ℕ) (e : ℤ) → e ≡ (signed_value negative v +ℤ neg_ℤ (pos places)) +ℤ pos k → 2 ^ 64 ≤ v → k < 2 ^ 63 → places < 2 ^ 63 → neg_ℤ (pos 38) ≤ℤ e → e ≤ℤ pos 38 → ⊥
+far : (negative : Bool) (v places k : ℕ) (e : ℤ) → e ≡ (signed_of negative v +ℤ neg_ℤ (pos places)) +ℤ pos k → 2 ^ 64 ≤ v → k < 2 ^ 63 → places < 2 ^ 63 → neg_ℤ (pos 38) ≤ℤ e → e ≤ℤ pos 38 → ⊥
 far false v places k e e_is h a b low high =
     let t = from_at_most (nat v ⊕ opp (nat places) ⊕ nat k) (nat 38) (subst (λ (z : ℤ). z ≤ℤ pos 38) e_is high) in
     omega arith

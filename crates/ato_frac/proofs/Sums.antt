@@ -8,7 +8,7 @@ use Rattle.ato_frac.specs.declared.faults.NumFault.{NumFault}
 use Rattle.ato_frac.specs.declared.faults.NumFault.TheVariants.{Wide}
 use Rattle.ato_rational.specs.Rational.{ℚ, ◌≈ℚ◌, ◌+ℚ◌, ◌-ℚ◌, neg_ℚ}
 use Rattle.std.proofs.Math.Nat.{div-mul_cancel}
-use Rattle.ato_frac.specs.LowestTerms.{signed_of}
+use Rattle.ato_frac.specs.Signed.{signed_of}
 use Rattle.ato_rational.proofs.Ring.{int, nat, ◌⊕◌, ◌⊗◌, same, from_same}
 
 pub sign_kept : (n : ℤ) → signed_of (int_lt n (pos 0)) (unsigned_abs n) ≡ n

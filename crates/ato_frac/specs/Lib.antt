@@ -5,7 +5,9 @@ pub mod Fractions
 pub mod LowestTerms
 pub mod Numbers
 pub mod OneNumber
+pub mod Powers
 pub mod Range
 pub mod Reading
 pub mod Scaling
+pub mod Signed
 pub mod Trimmed

@@ -1,10 +1,6 @@
 -- Lowest terms of a quotient of two whole numbers.
-use Rattle.std.specs.Prelude.{◌≡◌, ℕ, ◌<◌, ◌^◌, ℤ, pos, neg_ℤ, ◌*ℤ◌, unsigned_abs, Bool, if◌then◌else◌}
+use Rattle.std.specs.Prelude.{◌≡◌, ℕ, ◌<◌, ◌^◌, ℤ, pos, ◌*ℤ◌, unsigned_abs}
 use Rattle.std.specs.Int.{IsGcd}
-
--- a size with a sign
-abbrev pub signed_of : Bool → ℕ → ℤ
-signed_of negative n = if negative then neg_ℤ (pos n) else pos n
 
 -- n / d has lowest terms, and both parts of these are below 2^127 in size
 pub record HasSmallTerms (n d : ℤ) : Type 0 where

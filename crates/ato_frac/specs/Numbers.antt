@@ -1,10 +1,11 @@
 -- Which texts are numbers, and what they mean. A number is digits; after them there may be a point and digits, and
 -- after these `e` or `E`, a sign or none, and digits.
-use Rattle.std.specs.Prelude.{◌≡◌, ◌≢◌, ◌⊎◌, ℕ, ◌+◌, ◌*◌, ◌-◌, ◌%◌, ◌^◌, ◌<◌, zero, suc, ℤ, pos, negsuc, ◌+ℤ◌, neg_ℤ, Bool, true, false, if◌then◌else◌, List, [], ◌++◌, length, fold, codes}
+use Rattle.std.specs.Prelude.{◌≡◌, ◌≢◌, ◌⊎◌, ℕ, ◌+◌, ◌*◌, ◌-◌, ◌%◌, ◌^◌, ◌<◌, zero, suc, ℤ, pos, negsuc, ◌+ℤ◌, neg_ℤ, Bool, true, false, List, [], ◌++◌, length, fold, codes}
 use Rattle.std.specs.List.{list_all}
 use Rattle.std.specs.Char.{is_ascii_digit}
 use Rattle.std.proofs.Common.{lit<, sym, subst, mul-pos}
 use Rattle.std.proofs.Math.Nat.{pow-suc}
+use Rattle.ato_frac.specs.Signed.{signed_of}
 use Rattle.ato_rational.specs.Rational.{ℚ, ◌≈ℚ◌, ◌*ℚ◌, whole}
 
 -- one or more of the digits 0 to 9
@@ -53,10 +54,6 @@ digits_after n digits = fold (λ value digit. value * 10 + (digit - 48)) n digit
 abbrev pub digits_value : List ℕ → ℕ
 digits_value digits = digits_after 0 digits
 
--- a whole number with a sign
-abbrev pub signed_value : Bool → ℕ → ℤ
-signed_value negative n = if negative then neg_ℤ (pos n) else pos n
-
 -- a power of 10 is above 0
 pub tens_positive : (k : ℕ) → 0 < 10 ^ k
 tens_positive zero = lit< tt
@@ -69,7 +66,7 @@ ten_to (negsuc k) = record { num = pos 1; den = 10 ^ suc k; positive = tens_posi
 
 -- the power of 10 that goes with all digits of a number
 abbrev pub power_of : Parts → ℤ
-power_of parts = signed_value parts.negative (digits_value parts.exponent) +ℤ neg_ℤ (pos (length parts.fraction))
+power_of parts = signed_of parts.negative (digits_value parts.exponent) +ℤ neg_ℤ (pos (length parts.fraction))
 
 -- what a number means
 abbrev pub number_value : Parts → ℚ

@@ -8,6 +8,7 @@ mod lowest_terms;
 mod order;
 mod parts;
 
+pub use lowest_terms::signed;
 pub(crate) use lowest_terms::{LIMIT, lowest, reduced_if_small};
 
 /// An exact fraction in lowest terms: the denominator is above 0, and it and the numerator are below

@@ -10,14 +10,18 @@
 #![tactic(auto)]
 
 mod coin;
+mod comparing;
 mod decimal;
 mod exact;
 mod faults;
 mod fraction;
+mod powers;
 #[cfg(test)]
 mod tests;
 
 pub use coin::Coin;
+pub use comparing::{at_most, greater, lesser};
 pub use exact::{Divides, Exact};
 pub use faults::{DecimalFault, NumFault};
-pub use fraction::Frac;
+pub use fraction::{Frac, signed};
+pub use powers::{absolute, power};

@@ -1,14 +1,14 @@
 -- Functions that fall up to 0, are 0 there and rise from there: absolute values and even powers.
-use Rattle.std.proofs.Common.{◌≡◌, ◌≢◌, ⊎_elim, sym, subst, below_more, ℕ, suc, ◌+◌, ◌-◌, ◌*◌, ◌/◌, ◌%◌, ◌<◌, ◌≤◌, refl, arith}
-use Rattle.ato_rational.specs.Rational.{ℚ, ◌≈ℚ◌, ◌≤ℚ◌, ◌-ℚ◌, ◌*ℚ◌, neg_ℚ, abs_ℚ, power_ℚ, zero_ℚ}
+use Rattle.std.proofs.Common.{◌≡◌, ◌≢◌, ⊎_elim, sym, subst, ℕ, suc, ◌-◌, ◌*◌, ◌/◌, ◌%◌, ◌<◌, ◌≤◌, refl, arith}
+use Rattle.ato_rational.specs.Rational.{ℚ, ◌≈ℚ◌, ◌≤ℚ◌, neg_ℚ, abs_ℚ, power_ℚ, zero_ℚ}
 use Rattle.ato_rational.specs.Ranges.{IsWithin}
-use Rattle.ato_rational.proofs.RationalRing.{rat, minus, ◌⊞◌, ◌⊠◌, same, at_most, from_at_most}
-use Rattle.ato_rational.proofs.Order.{≤ℚ_refl, ≤ℚ_trans, ≤ℚ_total, ≤ℚ_antisymm, ≈ℚ-≤ℚ, ≈ℚ_refl, ≈ℚ_sym, ≈ℚ_trans, neg_ℚ_anti, +ℚ_same, *ℚ_comm, *ℚ_same_second}
+use Rattle.ato_rational.proofs.RationalRing.{rat, ◌⊠◌, same}
+use Rattle.ato_rational.proofs.Order.{≤ℚ_refl, ≤ℚ_trans, ≤ℚ_total, ≈ℚ-≤ℚ, ≈ℚ_sym, ≈ℚ_trans, neg_ℚ_anti}
 use Rattle.ato_rational.proofs.Extremes.{abs_ℚ_is, abs_ℚ_below, max_ℚ_greatest}
-use Rattle.ato_rational.proofs.Powers.{opposite_not_negative, power_mono, even_power_turned, odd_power_mono}
+use Rattle.ato_rational.proofs.Signs.{opposite_not_negative, opposite_not_positive}
+use Rattle.ato_rational.proofs.Powers.{power_mono, even_power_turned, odd_power_mono}
 use Rattle.ato_interval.specs.Ends.{Ends, Holds, IsProper}
 use Rattle.ato_interval.specs.Folds.{IsFolded, rising, falling, around}
-use Rattle.ato_interval.specs.Powers.{AtPower, CanRaise}
 use Rattle.ato_interval.specs.Results.{HoldsImage, IsImage}
 
 -- f falls up to 0, is 0 there and rises from there
@@ -85,11 +85,6 @@ module _ {Q : Type 0} (value : Q → ℚ) (f : ℚ → ℚ) (a : Ends Q) (proper
     folded_high r (falling n d e) = rw e image_low
     folded_high r (around n q z d e one) = ⊎_elim (λ t. rw t image_low) (λ t. rw t image_high) one
 
-opposite_not_positive : {x : ℚ} → zero_ℚ ≤ℚ x → neg_ℚ x ≤ℚ zero_ℚ
-opposite_not_positive {x} s =
-    let p = from_at_most (rat zero_ℚ) (rat x) s in
-    at_most (minus (rat x)) (rat zero_ℚ) (omega arith)
-
 pub abs_bowl : IsBowl abs_ℚ
 abs_bowl = record {
   falls = λ x y h n. abs_ℚ_below y (abs_ℚ x) (≤ℚ_trans n (abs_ℚ_is x).0) (≤ℚ_trans (neg_ℚ_anti h) (max_ℚ_greatest x (neg_ℚ x)).1);
@@ -117,28 +112,3 @@ pub odd_power_rises : (k : ℕ) → k % 2 ≢ 0 → (x y : ℚ) → x ≤ℚ y �
 odd_power_rises k odd x y h =
     let e : suc (2 * (k / 2)) ≡ k = omega arith in
     subst (λ n. power_ℚ x n ≤ℚ power_ℚ y n) e (odd_power_mono x y (k / 2) h)
-
--- the next power, with the number from the right
-pub next_power : (x p r : ℚ) (j : ℕ) → p ≈ℚ power_ℚ x j → r ≈ℚ p *ℚ x → r ≈ℚ power_ℚ x (j + 1)
-next_power x p r j e d =
-    let next : suc j ≡ j + 1 = omega arith in
-    subst (λ n. r ≈ℚ power_ℚ x n) next (≈ℚ_trans d (≈ℚ_trans (*ℚ_comm p x) (*ℚ_same_second x e)))
-
--- the absolute value is the number, or its difference from 0
-pub abs_of_above : (z x : ℚ) → z ≈ℚ zero_ℚ → z ≤ℚ x → x ≈ℚ abs_ℚ x
-abs_of_above z x e h =
-    let n = ≤ℚ_trans (≈ℚ-≤ℚ (≈ℚ_sym e)) h in
-    ≤ℚ_antisymm (max_ℚ_greatest x (neg_ℚ x)).0 (abs_ℚ_below x x (≤ℚ_refl x) (≤ℚ_trans (opposite_not_positive n) n))
-
-pub abs_of_below : (z x r : ℚ) → z ≈ℚ zero_ℚ → x ≤ℚ z → r ≈ℚ z -ℚ x → r ≈ℚ abs_ℚ x
-abs_of_below z x r e h d =
-    let n = ≤ℚ_trans h (≈ℚ-≤ℚ e) in
-    let turned = ≈ℚ_trans d (≈ℚ_trans (+ℚ_same e (≈ℚ_refl (neg_ℚ x))) (same (rat zero_ℚ ⊞ minus (rat x)) (minus (rat x)) (omega arith))) in
-    ≈ℚ_trans turned
-    (≤ℚ_antisymm (max_ℚ_greatest x (neg_ℚ x)).1
-    (abs_ℚ_below x (neg_ℚ x) (≤ℚ_trans n (opposite_not_negative n)) (≤ℚ_refl (neg_ℚ x))))
-
--- one more product
-pub raised_more : {Q : Type 0} (value : Q → ℚ) (R : Q → Q → Type 0) (x p : Q) (i : ℕ) → CanRaise value R x i → value p ≈ℚ power_ℚ (value x) i → R p x → CanRaise value R x (i + 1)
-raised_more value R x p i raised e holds j from below =
-    below_more (λ k. 1 ≤ k → AtPower value R x k) i (λ k h from. raised k from h) (λ _. record { power = p; is_power = e; holds = holds }) j below from

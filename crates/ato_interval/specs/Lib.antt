@@ -1,7 +1,6 @@
 pub mod Ends
 pub mod Folds
 pub mod Passes
-pub mod Powers
 pub mod Refusals
 pub mod Results
 pub mod Sets

@@ -19,9 +19,7 @@ mod folds;
 mod products;
 mod sums;
 
-use ato_frac::Exact;
-pub(crate) use ends::at_most;
-use ends::{greater, lesser};
+use ato_frac::{Exact, at_most, greater, lesser};
 use std::alloc::AllocError;
 use std::marker::Model;
 

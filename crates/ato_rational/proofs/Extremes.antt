@@ -4,7 +4,7 @@ use Rattle.std.specs.Prelude.{int_le}
 use Rattle.std.proofs.lemmas.Int.{ints}
 use Rattle.ato_rational.specs.Rational.{ℚ, ◌≤ℚ◌, ◌<ℚ◌, neg_ℚ, le_ℚ, min_ℚ, max_ℚ, abs_ℚ, zero_ℚ}
 use Rattle.ato_rational.proofs.Order.{≤ℚ_refl, ≤ℚ_trans, ≤ℚ_total, <ℚ-≤ℚ}
-use Rattle.ato_rational.proofs.Powers.{opposite_not_negative}
+use Rattle.ato_rational.proofs.Signs.{opposite_not_negative}
 
 -- the test of the order tells it
 le_true : (x y : ℤ) → int_le x y ≡ true → x ≤ℤ y

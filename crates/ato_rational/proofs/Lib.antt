@@ -8,4 +8,5 @@ pub mod QuotientSets
 pub mod Quotients
 pub mod RationalRing
 pub mod Ring
+pub mod Signs
 pub mod Slopes

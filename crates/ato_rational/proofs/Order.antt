@@ -2,7 +2,7 @@
 use Rattle.std.proofs.Common.{◌≢◌, ◌+◌, ◌*◌, ◌≤◌, ◌⊎◌, inl, inr, ⊎_elim, arith, mul-le-mul_right, mul-lt-mul_of_pos_right, le_of_mul-le-mul_right, lt_of_mul-lt-mul_right, ap, refl, Ordering, Less, Equal, Greater}
 use Rattle.std.proofs.lemmas.Int.{by_lt_z}
 use borrow.Author.Differences.{up, down}
-use Rattle.ato_rational.specs.Rational.{ℚ, ◌≈ℚ◌, ◌≤ℚ◌, ◌<ℚ◌, ◌+ℚ◌, ◌-ℚ◌, neg_ℚ, ◌*ℚ◌, zero_ℚ, Orders}
+use Rattle.ato_rational.specs.Rational.{ℚ, ◌≈ℚ◌, ◌≤ℚ◌, ◌<ℚ◌, ◌+ℚ◌, neg_ℚ, ◌*ℚ◌, zero_ℚ, Orders}
 use Rattle.ato_rational.specs.Ranges.{IsWithin}
 use Rattle.ato_rational.proofs.Ring.{over, under, products, products_strict}
 use Rattle.ato_rational.proofs.RationalRing.{rat, minus, ◌⊞◌, ◌⊠◌, cross, same, at_most, below, from_same, from_at_most, from_below}
@@ -130,12 +130,6 @@ pub *ℚ_anti_second : {x y : ℚ} (z : ℚ) → z ≤ℚ zero_ℚ → x ≤ℚ 
 
 pub +ℚ_given_mono : (x y z w r s : ℚ) → x ≤ℚ y → z ≤ℚ w → r ≈ℚ x +ℚ z → s ≈ℚ y +ℚ w → r ≤ℚ s
 +ℚ_given_mono x y z w r s h k d e = ≤ℚ_trans (≈ℚ-≤ℚ d) (≤ℚ_trans (+ℚ_mono h k) (≈ℚ-≤ℚ (≈ℚ_sym e)))
-
-pub -ℚ_given_mono : (x y z w r s : ℚ) → x ≤ℚ y → w ≤ℚ z → r ≈ℚ x -ℚ z → s ≈ℚ y -ℚ w → r ≤ℚ s
--ℚ_given_mono x y z w r s h k d e = ≤ℚ_trans (≈ℚ-≤ℚ d) (≤ℚ_trans (+ℚ_mono h (neg_ℚ_anti k)) (≈ℚ-≤ℚ (≈ℚ_sym e)))
-
-pub *ℚ_given_mono : (x y z r s : ℚ) → zero_ℚ ≤ℚ z → x ≤ℚ y → r ≈ℚ x *ℚ z → s ≈ℚ y *ℚ z → r ≤ℚ s
-*ℚ_given_mono x y z r s n h d e = ≤ℚ_trans (≈ℚ-≤ℚ d) (≤ℚ_trans (*ℚ_mono z n h) (≈ℚ-≤ℚ (≈ℚ_sym e)))
 
 -- a positive factor may be left out
 pub *ℚ_cancel : {x y : ℚ} (z : ℚ) → zero_ℚ <ℚ z → x *ℚ z ≤ℚ y *ℚ z → x ≤ℚ y

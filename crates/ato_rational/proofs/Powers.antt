@@ -2,16 +2,12 @@
 use Rattle.std.proofs.Common.{◌≡◌, ℕ, zero, suc, ◌*◌, ⊎_elim, arith}
 use Rattle.ato_rational.specs.Rational.{ℚ, ◌≈ℚ◌, ◌≤ℚ◌, ◌*ℚ◌, neg_ℚ, power_ℚ, zero_ℚ, one_ℚ}
 use Rattle.ato_rational.specs.Ranges.{IsWithin}
-use Rattle.ato_rational.proofs.RationalRing.{rat, minus, ◌⊠◌, same, at_most, from_at_most}
+use Rattle.ato_rational.proofs.RationalRing.{rat, minus, ◌⊠◌, same, at_most}
+use Rattle.ato_rational.proofs.Signs.{opposite_not_negative, turned_back}
 use Rattle.ato_rational.proofs.Order.{≤ℚ_refl, ≤ℚ_trans, ≤ℚ_total, ≈ℚ-≤ℚ, ≈ℚ_sym, ≈ℚ_trans, neg_ℚ_anti, *ℚ_mono, *ℚ_mono_second, *ℚ_same_second}
 
 zero_below_one : zero_ℚ ≤ℚ one_ℚ
 zero_below_one = at_most (rat zero_ℚ) (rat one_ℚ) (omega arith)
-
-pub opposite_not_negative : {x : ℚ} → x ≤ℚ zero_ℚ → zero_ℚ ≤ℚ neg_ℚ x
-opposite_not_negative {x} s =
-    let p = from_at_most (rat x) (rat zero_ℚ) s in
-    at_most (rat zero_ℚ) (minus (rat x)) (omega arith)
 
 pub times_zero : (x : ℚ) → x *ℚ zero_ℚ ≈ℚ zero_ℚ
 times_zero x = same (rat x ⊠ rat zero_ℚ) (rat zero_ℚ) (omega arith)
@@ -61,21 +57,15 @@ even_power_within a b h x j p q w =
 
 -- odd powers rise everywhere
 
-odd_power_turned : (x : ℚ) (j : ℕ) → power_ℚ (neg_ℚ x) (suc (2 * j)) ≈ℚ neg_ℚ (power_ℚ x (suc (2 * j)))
+pub odd_power_turned : (x : ℚ) (j : ℕ) → power_ℚ (neg_ℚ x) (suc (2 * j)) ≈ℚ neg_ℚ (power_ℚ x (suc (2 * j)))
 odd_power_turned x j =
     ≈ℚ_trans (*ℚ_same_second (neg_ℚ x) (even_power_turned x j))
     (same (minus (rat x) ⊠ rat (power_ℚ x (2 * j))) (minus (rat x ⊠ rat (power_ℚ x (2 * j)))) (omega arith))
 
-odd_power_not_positive : (x : ℚ) (j : ℕ) → x ≤ℚ zero_ℚ → power_ℚ x (suc (2 * j)) ≤ℚ zero_ℚ
+pub odd_power_not_positive : (x : ℚ) (j : ℕ) → x ≤ℚ zero_ℚ → power_ℚ x (suc (2 * j)) ≤ℚ zero_ℚ
 odd_power_not_positive x j s =
     ≤ℚ_trans (*ℚ_mono (power_ℚ x (2 * j)) (even_power_not_negative x j) s)
     (≈ℚ-≤ℚ (same (rat zero_ℚ ⊠ rat (power_ℚ x (2 * j))) (rat zero_ℚ) (omega arith)))
-
--- the order of two opposites, turned back
-turned_back : {p q : ℚ} → neg_ℚ q ≤ℚ neg_ℚ p → p ≤ℚ q
-turned_back {p} {q} h =
-    let t = from_at_most (minus (rat q)) (minus (rat p)) h in
-    at_most (rat p) (rat q) (omega arith)
 
 pub odd_power_mono : (x y : ℚ) (j : ℕ) → x ≤ℚ y → power_ℚ x (suc (2 * j)) ≤ℚ power_ℚ y (suc (2 * j))
 odd_power_mono x y j h =

@@ -2,7 +2,8 @@
 use Rattle.std.proofs.Common.{◌≡◌, ℕ, zero, suc, ℤ, pos, negsuc, neg_ℤ, ◌*ℤ◌, ◌⊎◌, inl, inr, ⊎_elim, refl, arith}
 use Rattle.ato_rational.specs.Rational.{ℚ, ◌≈ℚ◌, ◌≤ℚ◌, ◌<ℚ◌, ◌*ℚ◌, neg_ℚ, ◌/ℚ◌, IsNotZero, inverse_of, inverse_ℚ, zero_ℚ}
 use Rattle.ato_rational.specs.Ranges.{IsWithin, AtEnds, IsQuotient}
-use Rattle.ato_rational.proofs.Powers.{opposite_not_negative, times_zero}
+use Rattle.ato_rational.proofs.Powers.{times_zero}
+use Rattle.ato_rational.proofs.Signs.{opposite_not_negative, opposite_not_positive, opposite_positive}
 use Rattle.ato_rational.proofs.Ring as Ring
 use Rattle.ato_rational.proofs.Ring.{nat, opp, ◌⊗◌}
 use Rattle.ato_rational.proofs.RationalRing.{rat, minus, ◌⊠◌, same, at_most, below, from_at_most, from_below}
@@ -14,7 +15,7 @@ pub times_quotient : (x y : ℚ) → IsNotZero y → (x *ℚ y) /ℚ y ≈ℚ x
 times_quotient x y n =
     ≈ℚ_trans (same (rat x ⊠ rat y ⊠ rat (inverse_ℚ y)) (rat x ⊠ rat (inverse_ℚ y) ⊠ rat y) (omega arith)) (quotient_times x y n)
 
-divisor_not_zero : {c d y : ℚ} → (zero_ℚ <ℚ c) ⊎ (d <ℚ zero_ℚ) → IsWithin c d y → IsNotZero y
+pub divisor_not_zero : {c d y : ℚ} → (zero_ℚ <ℚ c) ⊎ (d <ℚ zero_ℚ) → IsWithin c d y → IsNotZero y
 divisor_not_zero (inl p) w = inl (<ℚ-≤ℚ_trans p w.above)
 divisor_not_zero (inr p) w = inr (≤ℚ-<ℚ_trans w.below p)
 
@@ -25,14 +26,14 @@ quotient_out lo hi l h c d x s e q =
     (quotient_within lo hi l h c d (x *ℚ q.by) q.by s e q.product_within q.by_within)
 
 -- a quotient by a positive number, against x
-quotient_below : (p e x : ℚ) → zero_ℚ <ℚ e → p <ℚ x *ℚ e → p /ℚ e <ℚ x
+pub quotient_below : (p e x : ℚ) → zero_ℚ <ℚ e → p <ℚ x *ℚ e → p /ℚ e <ℚ x
 quotient_below p e x s h =
     ⊎_elim
     (λ k. absurd (clash_ℚ h (≤ℚ_trans (*ℚ_mono e (<ℚ-≤ℚ s) k) (≈ℚ-≤ℚ (quotient_times p e (inl s))))))
     (λ k. k)
     (≤ℚ_or_<ℚ x (p /ℚ e))
 
-quotient_above : (p e x : ℚ) → zero_ℚ <ℚ e → x *ℚ e <ℚ p → x <ℚ p /ℚ e
+pub quotient_above : (p e x : ℚ) → zero_ℚ <ℚ e → x *ℚ e <ℚ p → x <ℚ p /ℚ e
 quotient_above p e x s h =
     ⊎_elim
     (λ k. absurd (clash_ℚ h (≤ℚ_trans (≈ℚ-≤ℚ (≈ℚ_sym (quotient_times p e (inl s)))) (*ℚ_mono e (<ℚ-≤ℚ s) k))))
@@ -137,7 +138,7 @@ inverse_turned (pos zero) d = refl
 inverse_turned (pos (suc n)) d = refl
 inverse_turned (negsuc n) d = Ring.same (nat d ⊗ nat (suc n)) (opp (opp (nat d)) ⊗ nat (suc n)) (omega arith)
 
-inverse_neg : (e : ℚ) → inverse_ℚ (neg_ℚ e) ≈ℚ neg_ℚ (inverse_ℚ e)
+pub inverse_neg : (e : ℚ) → inverse_ℚ (neg_ℚ e) ≈ℚ neg_ℚ (inverse_ℚ e)
 inverse_neg e = record { same = inverse_turned e.num e.den }
 
 turned_above : (p e x : ℚ) → p /ℚ neg_ℚ e <ℚ neg_ℚ x → x <ℚ p /ℚ e
@@ -149,11 +150,6 @@ turned_below : (p e x : ℚ) → neg_ℚ x <ℚ p /ℚ neg_ℚ e → p /ℚ e <�
 turned_below p e x h =
     let k = from_below (minus (rat x)) (rat p ⊠ minus (rat (inverse_ℚ e))) (<ℚ-≤ℚ_trans h (≈ℚ-≤ℚ (*ℚ_same_second p (inverse_neg e)))) in
     below (rat p ⊠ rat (inverse_ℚ e)) (rat x) (omega arith)
-
-opposite_positive : {x : ℚ} → x <ℚ zero_ℚ → zero_ℚ <ℚ neg_ℚ x
-opposite_positive {x} s =
-    let p = from_below (rat x) (rat zero_ℚ) s in
-    below (rat zero_ℚ) (minus (rat x)) (omega arith)
 
 in_by_negative : (l h c d x : ℚ) → l ≤ℚ h → c ≤ℚ d → d <ℚ zero_ℚ → ¬ AtEnds (λ p e. p /ℚ e <ℚ x) l h c d → ¬ AtEnds (λ p e. x <ℚ p /ℚ e) l h c d → IsQuotient l h c d x
 in_by_negative l h c d x lh cd negative above under =
@@ -184,11 +180,6 @@ two_parts_out l h c d x positive q =
     (λ s. inr (≤ℚ_trans q.product_within.above (*ℚ_mono_second x s q.by_within.below)))
     (λ s. inl (≤ℚ_trans q.product_within.above (*ℚ_anti_second x s q.by_within.above)))
     (≤ℚ_total zero_ℚ x)
-
-opposite_not_positive : {x : ℚ} → zero_ℚ ≤ℚ x → neg_ℚ x ≤ℚ zero_ℚ
-opposite_not_positive {x} s =
-    let p = from_at_most (rat zero_ℚ) (rat x) s in
-    at_most (minus (rat x)) (rat zero_ℚ) (omega arith)
 
 module _ (l h : ℚ) (positive : zero_ℚ <ℚ l) (lh : l ≤ℚ h) where
   upper_part : (c d x : ℚ) → c ≤ℚ zero_ℚ → zero_ℚ ≤ℚ d → l ≤ℚ x *ℚ d → IsQuotient l h c d x

@@ -46,12 +46,12 @@ below_zero (negsuc m) (negsuc n) b d p s h =
     let k = Ring.from_at_most (opp (nat (suc m)) ⊗ nat d) (opp (nat (suc n)) ⊗ nat b) h in
     Ring.at_most (opp (nat d) ⊗ nat (suc m)) (opp (nat b) ⊗ nat (suc n)) (omega arith)
 
-num_positive : {x : ℚ} → zero_ℚ <ℚ x → pos 0 <ℤ x.num
+pub num_positive : {x : ℚ} → zero_ℚ <ℚ x → pos 0 <ℤ x.num
 num_positive {x} h =
     let p = Ring.from_below (nat 0 ⊗ nat x.den) (int x.num ⊗ nat 1) h.lt in
     Ring.below (nat 0) (int x.num) (omega arith)
 
-num_negative : {x : ℚ} → x <ℚ zero_ℚ → x.num <ℤ pos 0
+pub num_negative : {x : ℚ} → x <ℚ zero_ℚ → x.num <ℤ pos 0
 num_negative {x} h =
     let p = Ring.from_below (int x.num ⊗ nat 1) (nat 0 ⊗ nat x.den) h.lt in
     Ring.below (int x.num) (nat 0) (omega arith)

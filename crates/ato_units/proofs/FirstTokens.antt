@@ -10,7 +10,8 @@ use Rattle.std.proofs.lemmas.Slice.Eq.{bytes_eq-Decides}
 use Rattle.unicode_ident.specs.Ident.{is_xid_continue}
 use Rattle.ato_base.specs.Names.{starts_name}
 use Rattle.ato_frac.specs.Reading.{read_number}
-use Rattle.ato_units.specs.Literals.{Token, number, unit, plus_minus, minus, word_token, mark_token, token_of}
+use Rattle.ato_units.proofs.Spelling.{token_of}
+use Rattle.ato_units.specs.Literals.{Token, number, unit, plus_minus, minus, word_token, mark_token}
 use Rattle.ato_units.specs.LiteralReading.{past, before, begins_with_digit, past_number, past_minus, past_slash, then_plus_minus, front_mark, front_token}
 use Rattle.ato_units.proofs.Cutting.{before_seam}
 use Rattle.ato_units.proofs.Fronts.{cut_past, past_fails, number_cut, is_number_front, reach_if}

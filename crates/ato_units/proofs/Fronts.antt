@@ -158,7 +158,7 @@ number_cut text h =
 at_most_end : (text rest : List ℕ) → HasEnd text rest → length rest ≤ length text
 at_most_end text rest h = omega (arith, ap length h.text_is, length-append h.front rest)
 
-begins : (ds rest : List ℕ) → AreDigits ds → begins_with_digit (ds ++ rest) ≡ true
+pub begins : (ds rest : List ℕ) → AreDigits ds → begins_with_digit (ds ++ rest) ≡ true
 begins [] rest h = absurd (omega (arith, h.some))
 begins (d ∷ ds) rest h = by (is_ascii_digit d) h.all
   where

@@ -10,5 +10,6 @@ pub mod Exponents
 pub mod OneQuantity
 pub mod OneReading
 pub mod Scales
+pub mod Spelling
 pub mod UnitTexts
 pub mod Values

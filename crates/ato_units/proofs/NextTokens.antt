@@ -4,9 +4,10 @@ use Rattle.std.specs.List.{list_all}
 use Rattle.std.proofs.lemmas.Bool.{eqb-true, leb-true, leb-false}
 use Rattle.std.proofs.lemmas.List.{append-nil}
 use Rattle.unicode_ident.proofs.IdentLemmas.{is_xid_start-ascii}
-use Rattle.ato_units.specs.Literals.{is_blank, Token, token_of, IsNext}
+use Rattle.ato_units.specs.Literals.{is_blank, Token, IsNext}
 use Rattle.ato_units.specs.LiteralReading.{past, front_token, next_token}
 use Rattle.ato_units.proofs.Fronts.{cut_past, past_all}
+use Rattle.ato_units.proofs.Spelling.{token_of, spelled_found, found_spelled, none_spelled, none_found}
 use Rattle.ato_units.proofs.FirstTokens.{IsFirst, Finds, nothing, token, first_found}
 
 pub same_found : (a b : Token × List ℕ) → Some a ≡ Some b → (a.0 ≡ b.0) × (a.1 ≡ b.1)
@@ -26,8 +27,8 @@ next_sound text t rest e = by (next_token text) e (first_found (past is_blank te
           spelling = f.spelling;
           text_is = k.text_is ∙ ap (λ (xs : List ℕ). k.front ++ xs) f.text_is;
           blank = k.all;
-          spells = f.is;
-          longest = f.longest;
+          spells = found_spelled f.spelling found.0 f.is;
+          longest = λ more after e l. none_spelled (f.spelling ++ more) (f.longest more after e l);
         }))
 
 -- a blank begins no token
@@ -101,7 +102,8 @@ unfolding past
 past_blanks blanks text c cs h k = past_all is_blank blanks (c ∷ cs) h ∙ rw k refl
 
 pub next_complete : (text : List ℕ) (t : Token) (rest : List ℕ) → IsNext text t rest → next_token text ≡ Some (t, rest)
-next_complete text t rest n = by n.spelling n.text_is n.spells n.longest
+next_complete text t rest n =
+    by n.spelling n.text_is (spelled_found n.spelling t n.spells) (λ more after e l. none_found (n.spelling ++ more) (n.longest more after e l))
   where
     by : (s : List ℕ) → text ≡ n.blanks ++ (s ++ rest) → token_of s ≡ Some t → ((more after : List ℕ) → rest ≡ more ++ after → 0 < length more → token_of (s ++ more) ≡ None)
         → next_token text ≡ Some (t, rest)

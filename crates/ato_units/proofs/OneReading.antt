@@ -1,6 +1,6 @@
 -- No text of a unit has two readings.
 use Rattle.std.proofs.Common.{◌≡◌, ℕ, Bool, true, false, not, ◌&&◌, ◌||◌, List, [], ◌∷◌, map, Some, refl, sym, ap, ◌∙◌, subst, ℤ, pos, neg_ℤ, if◌then◌else◌}
-use Rattle.std.specs.Prelude.{◌↔◌}
+use Rattle.std.specs.Prelude.{◌↔◌, IsTrue}
 use Rattle.std.specs.List.{list_any}
 use Rattle.std.specs.Str.{bytes_eq}
 use Rattle.std.proofs.lemmas.Bool.{and_parts}
@@ -10,6 +10,7 @@ use Rattle.std.specs.Prelude.{int_le}
 use Rattle.std.specs.List.{list_all}
 use Rattle.ato_units.specs.Fractions.{IsSmallPower}
 use Rattle.std.proofs.lemmas.Slice.Eq.{bytes_eq-Decides}
+use Rattle.ato_units.specs.Tables.{are_one_reading}
 use Rattle.ato_units.specs.Units.{Meaning, Named, meaning_in, prefixable, whole_only, prefixes, names, all_units, unit_of, all_differ, IsListed, here, later}
 
 abbrev texts : List Named → List (List ℕ)
@@ -50,14 +51,10 @@ read_listed (u ∷ us) text m h = by (bytes_eq u.text text) refl h (read_listed 
     by true e g k = here ((bytes_eq-Decides u.text text).0 e) (same_Some u.meaning m g)
     by false e g k = later (k g)
 
--- all texts of units differ
-units_differ : all_differ (texts all_units) ≡ true
-unfolding all_units names prefixable whole_only prefixes
-units_differ = refl
-
-pub one_reading : (text : List ℕ) (m : Meaning) → (IsListed text m all_units ↔ (unit_of text ≡ Some m))
-unfolding unit_of
-one_reading text m = (only_reading all_units units_differ text m, read_listed all_units text m)
+-- where the texts of the table differ, a text has one reading
+pub one_reading : IsTrue (are_one_reading prefixable whole_only) → (text : List ℕ) (m : Meaning) → (IsListed text m all_units ↔ (unit_of text ≡ Some m))
+unfolding unit_of all_units names are_one_reading
+one_reading differ text m = (only_reading all_units differ text m, read_listed all_units text m)
 
 -- each unit is a power of ten from -18 to 18
 
@@ -85,4 +82,5 @@ unfolding are_small all_units names prefixable whole_only prefixes
 units_small = refl
 
 pub unit_small : (text : List ℕ) (m : Meaning) → unit_of text ≡ Some m → IsSmallPower m.tens
-unit_small text m h = listed_small all_units text m units_small ((one_reading text m).1 h)
+unfolding unit_of
+unit_small text m h = listed_small all_units text m units_small (read_listed all_units text m h)

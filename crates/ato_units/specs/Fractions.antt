@@ -1,12 +1,5 @@
--- Fractions that are made of two whole numbers.
-use Rattle.std.specs.Prelude.{◌≢◌, ℤ, pos, neg_ℤ, ◌≤ℤ◌}
-use Rattle.ato_frac.specs.Range.{IsInRange}
-use Rattle.ato_rational.specs.Rational.{◌/ℚ◌, whole}
-
--- n / d has a fraction
-pub record HasFraction (n d : ℤ) : Type 0 where
-  pub divides : d ≢ pos 0
-  pub in_range : IsInRange (whole n /ℚ whole d)
+-- Powers of ten that are scales of units.
+use Rattle.std.specs.Prelude.{ℤ, pos, neg_ℤ, ◌≤ℤ◌}
 
 -- a power of ten that fits a fraction as it is and below a line
 pub record IsSmallPower (power : ℤ) : Type 0 where

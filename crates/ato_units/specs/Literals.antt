@@ -2,12 +2,11 @@
 use Rattle.std.specs.Prelude.{◌≡◌, ℕ, ◌<◌, ◌==◌, Bool, true, false, ◌||◌, List, [], ◌∷◌, ◌++◌, length, Option, Some, None, codes, if◌then◌else◌}
 use Rattle.std.specs.Char.{is_ascii_digit}
 use Rattle.std.specs.List.{list_all}
-use Rattle.std.specs.Option.{is_some}
 use Rattle.std.specs.Str.{bytes_eq}
 use Rattle.unicode_ident.specs.Ident.{is_xid_continue}
 use Rattle.ato_base.specs.Keywords.{is_keyword}
 use Rattle.ato_base.specs.Names.{starts_name}
-use Rattle.ato_frac.specs.Reading.{read_number}
+use Rattle.ato_frac.specs.Numbers.{Parts, IsNumber}
 use Rattle.ato_units.specs.declared.quantities.Form.{Form}
 use Rattle.ato_units.specs.declared.quantities.Form.TheVariants as forms
 
@@ -35,13 +34,11 @@ mark_token text =
     else (if bytes_eq text (codes "-") then Some minus
     else (if bytes_eq text (codes "+/-") || bytes_eq text (0xB1 ∷ []) then Some plus_minus else None))
 
--- the token that a text spells: a number, a name or a keyword, or a mark
-unfoldable pub token_of : List ℕ → Option Token
-token_of [] = None
-token_of (c ∷ cs) =
-    if is_ascii_digit c then (if is_some (read_number (c ∷ cs)) then Some (number (c ∷ cs)) else None)
-    else (if starts_name c then (if list_all is_xid_continue cs then Some (word_token (c ∷ cs)) else None)
-    else mark_token (c ∷ cs))
+-- a text spells a token: a number of the grammar, a word that is a name or a keyword, or a mark
+pub data Spells (text : List ℕ) (token : Token) : Type 0 where
+  a_number : (parts : Parts) → IsNumber text parts → token ≡ number text → Spells text token
+  a_word : (c : ℕ) (cs : List ℕ) → text ≡ c ∷ cs → is_ascii_digit c ≡ false → starts_name c ≡ true → list_all is_xid_continue cs ≡ true → token ≡ word_token text → Spells text token
+  a_mark : (c : ℕ) (cs : List ℕ) → text ≡ c ∷ cs → is_ascii_digit c ≡ false → starts_name c ≡ false → mark_token text ≡ Some token → Spells text token
 
 -- after blanks a text begins with a token, and no longer text from there spells any token
 pub record IsNext (text : List ℕ) (token : Token) (rest : List ℕ) : Type 0 where
@@ -49,8 +46,8 @@ pub record IsNext (text : List ℕ) (token : Token) (rest : List ℕ) : Type 0 w
   pub spelling : List ℕ
   pub text_is : text ≡ blanks ++ (spelling ++ rest)
   pub blank : list_all is_blank blanks ≡ true
-  pub spells : token_of spelling ≡ Some token
-  pub longest : (more after : List ℕ) → rest ≡ more ++ after → 0 < length more → token_of (spelling ++ more) ≡ None
+  pub spells : Spells spelling token
+  pub longest : (more after : List ℕ) → rest ≡ more ++ after → 0 < length more → (other : Token) → ¬ Spells (spelling ++ more) other
 
 -- a text is tokens, with blanks before, between and after them
 pub data AreTokens : List ℕ → List Token → Type 0 where

@@ -7,7 +7,6 @@ ghost use Rattle.ato_units.specs.Literals.{Literal, IsLiteral};
 ghost use Rattle.ato_units.specs.Parts.{written};
 ghost use Rattle.ato_units.specs.Spellings.{spelled, cut_part, cut_token, spelled_literal, HasNumber, IsWritten, LiteralGives};
 
-use crate::numbers::opposite;
 use crate::quantities::{Form, Quantity, QuantityFault, WrittenPart, from_parts};
 use crate::tokens::{Token, is_all_blank, next_token};
 use ato_frac::Frac;
@@ -88,7 +87,7 @@ fn number_of(negative: bool, digits: &str) -> Option<Frac>
 {
     match Frac::from_decimal(digits.as_bytes()) {
         Err(_) => None,
-        Ok(size) => Some(if negative { opposite(&size) } else { size }),
+        Ok(size) => Some(if negative { size.opposite() } else { size }),
     }
 }
 

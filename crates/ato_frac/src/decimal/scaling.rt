@@ -1,5 +1,5 @@
 //! Fractions of whole numbers times powers of 10.
-ghost use Rattle.std.specs.Prelude.{◌≡◌, ◌<◌, ◌≤◌, ◌^◌, pos, ◌+ℤ◌, neg_ℤ, MatchOption};
+ghost use Rattle.std.specs.Prelude.{◌≡◌, ◌<◌, ◌≤◌, ◌^◌, pos, ◌+ℤ◌, neg_ℤ, ◌≤ℤ◌, MatchOption};
 ghost use Rattle.ato_rational.specs.Rational.{◌≈ℚ◌, ◌*ℚ◌, whole};
 ghost use Rattle.ato_frac.specs.Fractions.{value_of};
 ghost use Rattle.ato_frac.specs.Numbers.{ten_to};
@@ -19,6 +19,22 @@ fn whole_fraction(n: u128) -> Frac
     ensures { value_of result ≈ℚ whole (pos n) }
 {
     lowest(false, n, 1)
+}
+
+impl Frac {
+    /// 10 to a power from -38 to 38.
+    pub fn power_of_ten(power: i32) -> Frac
+        requires from { neg_ℤ (pos 38) ≤ℤ power }
+        requires to { power ≤ℤ pos 38 }
+        ensures { value_of result ≈ℚ ten_to power }
+    {
+        let size = power_of_ten(power.unsigned_abs());
+        if power < 0 {
+            lowest(false, 1, size)
+        } else {
+            whole_fraction(size)
+        }
+    }
 }
 
 /// m · 10^k

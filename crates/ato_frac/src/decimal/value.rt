@@ -3,7 +3,8 @@ ghost use Rattle.std.specs.Prelude.{◌≡◌, ◌+◌, ◌*◌, ◌-◌, ◌<�
 ghost use Rattle.std.specs.List.{list_all};
 ghost use Rattle.std.specs.Char.{is_ascii_digit};
 ghost use Rattle.ato_frac.specs.Decimals.{IsReadAs};
-ghost use Rattle.ato_frac.specs.Numbers.{digits_value, signed_value, number_value};
+ghost use Rattle.ato_frac.specs.Numbers.{digits_value, number_value};
+ghost use Rattle.ato_frac.specs.Signed.{signed_of};
 ghost use Rattle.ato_frac.specs.Trimmed.{IsTrimmed, IsTooLong};
 
 use crate::decimal::scaling::scaled;
@@ -56,7 +57,7 @@ fn exponent_size(digits: &[u8]) -> Option<u64>
 /// The powers of 10 in the numerator and in the denominator.
 fn powers(zeros: usize, places: usize, negative: bool, size: u64) -> (u128, u128)
     ensures { pos result.0 +ℤ neg_ℤ (pos result.1)
-        ≡ (signed_value negative size +ℤ neg_ℤ (pos places)) +ℤ pos zeros }
+        ≡ (signed_of negative size +ℤ neg_ℤ (pos places)) +ℤ pos zeros }
 {
     if negative {
         (zeros as u128, places as u128 + size as u128)

@@ -3,7 +3,7 @@ ghost use Rattle.std.specs.Prelude.{◌≡◌, ◌≢◌, ◌*◌, ◌<◌, ◌^
 ghost use Rattle.ato_frac.specs.Fractions.{value_of, CanAdd, CanSubtract, CanMultiply, CanDivide};
 ghost use Rattle.ato_frac.specs.Faults.{RefusesQuotient};
 ghost use Rattle.ato_frac.specs.declared.faults.NumFault.TheVariants.{Wide};
-ghost use Rattle.ato_rational.specs.Rational.{◌≈ℚ◌, ◌+ℚ◌, ◌-ℚ◌, ◌*ℚ◌, ◌/ℚ◌, inverse_ℚ, IsNotZero};
+ghost use Rattle.ato_rational.specs.Rational.{◌≈ℚ◌, ◌+ℚ◌, ◌-ℚ◌, ◌*ℚ◌, ◌/ℚ◌, neg_ℚ, inverse_ℚ, IsNotZero};
 
 use crate::fraction::lowest_terms::{LIMIT, gcd, lowest, reduced};
 use crate::{Frac, NumFault};
@@ -110,10 +110,11 @@ impl Frac {
         self.mul(&inverse)
     }
 
-    /// The opposite.
-    fn opposite(&self) -> Frac
-        ensures numer { result.numer ≡ neg_ℤ self.now.numer }
-        ensures denom { result.denom ≡ self.now.denom }
+    /// The opposite. It is never refused.
+    pub fn opposite(&self) -> Frac
+        ensures value { value_of result ≈ℚ neg_ℚ (value_of self.now) }
+        ensures numer { (value_of result).num ≡ neg_ℤ (value_of self.now).num }
+        ensures denom { (value_of result).den ≡ (value_of self.now).den }
     {
         lowest(!self.is_negative(), self.size(), self.denom)
     }

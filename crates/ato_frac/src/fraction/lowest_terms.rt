@@ -1,7 +1,8 @@
 //! Bringing a quotient of two whole numbers to lowest terms.
 ghost use Rattle.std.specs.Prelude.{◌≡◌, ◌<◌, ◌^◌, pos, ◌*ℤ◌, MatchOption};
 ghost use Rattle.std.specs.Int.{IsGcd};
-ghost use Rattle.ato_frac.specs.LowestTerms.{signed_of, HasSmallTerms};
+ghost use Rattle.ato_frac.specs.LowestTerms.{HasSmallTerms};
+ghost use Rattle.ato_frac.specs.Signed.{signed_of};
 
 use crate::Frac;
 
@@ -23,7 +24,7 @@ pub(crate) fn gcd(a: u128, b: u128) -> u128
 }
 
 /// A size with a sign.
-fn signed(negative: bool, size: u128) -> i128
+pub fn signed(negative: bool, size: u128) -> i128
     requires { size < 2 ^ 127 }
     ensures { result ≡ signed_of negative size }
 {

@@ -1,15 +1,13 @@
 //! Absolute values and powers of intervals.
-ghost use Rattle.std.specs.Prelude.{◌≡◌, ◌⊎◌, ◌≤◌, IfOk, MatchOption, MatchResult};
-ghost use Rattle.ato_rational.specs.Rational.{◌≈ℚ◌, ◌≤ℚ◌, ◌<ℚ◌, abs_ℚ, power_ℚ, zero_ℚ};
+ghost use Rattle.std.specs.Prelude.{◌≡◌, ◌⊎◌, ◌≤◌, IfOk, MatchResult};
+ghost use Rattle.ato_rational.specs.Rational.{◌≈ℚ◌, ◌≤ℚ◌, abs_ℚ, power_ℚ, zero_ℚ};
+ghost use Rattle.ato_frac.specs.Powers.{CanTurn, CanRaise, CannotRaise};
 ghost use Rattle.ato_interval.specs.Folds.{IsFolded};
-ghost use Rattle.ato_interval.specs.Powers.{CanRaise, CannotRaise};
-ghost use Rattle.ato_interval.specs.Refusals.{CanTurn, OfZero};
 ghost use Rattle.ato_interval.specs.Results.{HoldsImage, IsImage};
 ghost use Rattle.ato_interval.specs.declared.faults.RangeFault.TheVariants.{Wide};
 
-use crate::interval::ends::{at_most, greater};
 use crate::{Interval, RangeFault};
-use ato_frac::Exact;
+use ato_frac::{Exact, absolute, at_most, greater, power};
 
 impl<Q: Exact> Interval<Q> {
     /// The interval of the absolute values. `Wide` exactly where an end is below 0 and its opposite,
@@ -18,17 +16,16 @@ impl<Q: Exact> Interval<Q> {
         ensures holds { IfOk result (HoldsImage Q.value abs_ℚ self.now) }
         ensures low_is { IfOk result (λ r. IsImage Q.value abs_ℚ self.now (Q.value r.low)) }
         ensures high_is { IfOk result (λ r. IsImage Q.value abs_ℚ self.now (Q.value r.high)) }
-        ensures refused { OfZero Q.value (λ zero. MatchResult result
-            (λ _. CanTurn Q.value Q.can_subtract zero self.now.low
-            × CanTurn Q.value Q.can_subtract zero self.now.high)
+        ensures refused { MatchResult result
+            (λ _. CanTurn Q.value Q.can_subtract self.now.low
+            × CanTurn Q.value Q.can_subtract self.now.high)
             (λ e. (e ≡ Wide)
-            × ¬ (CanTurn Q.value Q.can_subtract zero self.now.low
-            × CanTurn Q.value Q.can_subtract zero self.now.high))) }
+            × ¬ (CanTurn Q.value Q.can_subtract self.now.low
+            × CanTurn Q.value Q.can_subtract self.now.high)) }
     {
-        let zero = Q::zero();
-        let low = end!(absolute(&zero, &self.low));
-        let high = end!(absolute(&zero, &self.high));
-        Ok(self.folded(zero, low, high))
+        let low = end!(absolute(&self.low));
+        let high = end!(absolute(&self.high));
+        Ok(self.folded(Q::zero(), low, high))
     }
 
     /// The interval of the k-th powers. A power is k - 1 products from the left: the square, that
@@ -80,33 +77,4 @@ impl<Q: Exact> Interval<Q> {
             high: greater(low, high),
         }
     }
-}
-
-/// The absolute value, by the difference from 0 for a number below it.
-fn absolute<Q: Exact>(zero: &Q, x: &Q) -> Option<Q>
-    requires { Q.value zero.now ≈ℚ zero_ℚ }
-    ensures { MatchOption result
-        (¬ CanTurn Q.value Q.can_subtract zero.now x.now)
-        (λ r. CanTurn Q.value Q.can_subtract zero.now x.now
-        × (Q.value r ≈ℚ abs_ℚ (Q.value x.now))) }
-{
-    if at_most(zero, x) {
-        Some(*x)
-    } else {
-        Some(zero.minus(x)?)
-    }
-}
-
-/// The k-th power, by k - 1 products from the left.
-fn power<Q: Exact>(x: &Q, k: u32) -> Option<Q>
-    requires { 1 ≤ k }
-    ensures { MatchOption result
-        (CannotRaise Q.value Q.can_multiply x.now k)
-        (λ r. CanRaise Q.value Q.can_multiply x.now k × (Q.value r ≈ℚ power_ℚ (Q.value x.now) k)) }
-{
-    let mut power = *x;
-    'factors: for _ in 1..k {
-        power = power.times(x)?;
-    }
-    Some(power)
 }

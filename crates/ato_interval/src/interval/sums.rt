@@ -4,9 +4,8 @@ ghost use Rattle.ato_rational.specs.Rational.{◌+ℚ◌, ◌-ℚ◌, min_ℚ, m
 ghost use Rattle.ato_interval.specs.Results.{HoldsResults, IsResult};
 ghost use Rattle.ato_interval.specs.declared.faults.RangeFault.TheVariants.{Wide};
 
-use crate::interval::ends::{greater, lesser};
 use crate::{Interval, RangeFault};
-use ato_frac::Exact;
+use ato_frac::{Exact, greater, lesser};
 
 impl<Q: Exact> Interval<Q> {
     /// The interval of the sums. `Wide` exactly where the sum of the two low or of the two high ends is

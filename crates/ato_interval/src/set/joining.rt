@@ -4,10 +4,9 @@ ghost use Rattle.ato_rational.specs.Rational.{ℚ};
 ghost use Rattle.ato_interval.specs.Sets.{IsIn, AreRising};
 ghost use Rattle.ato_interval.specs.Passes.{TakesLowest};
 
-use crate::interval::at_most;
 use crate::{Interval, IntervalSet};
 use ato_base::{List, NoMemory};
-use ato_frac::Exact;
+use ato_frac::{Exact, at_most};
 
 impl<Q: Exact> IntervalSet<Q> {
     /// The values that are in this set or in the other. Parts that meet or touch become one.

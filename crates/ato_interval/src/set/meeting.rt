@@ -4,10 +4,9 @@ ghost use Rattle.ato_rational.specs.Rational.{ℚ, ◌<ℚ◌};
 ghost use Rattle.ato_interval.specs.Ends.{Holds};
 ghost use Rattle.ato_interval.specs.Sets.{IsIn, AreRising};
 
-use crate::interval::at_most;
 use crate::{Interval, IntervalSet};
 use ato_base::{List, NoMemory};
-use ato_frac::Exact;
+use ato_frac::{Exact, at_most};
 
 impl<Q: Exact> IntervalSet<Q> {
     /// The values that are in this set and in the other.

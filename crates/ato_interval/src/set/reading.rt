@@ -5,9 +5,8 @@ ghost use Rattle.ato_interval.specs.Ends.{Holds, IsProper};
 ghost use Rattle.ato_interval.specs.Passes.{Reaches};
 ghost use Rattle.ato_interval.specs.Sets.{IsIn, AreRising};
 
-use crate::interval::at_most;
 use crate::{Interval, IntervalSet};
-use ato_frac::Exact;
+use ato_frac::{Exact, at_most};
 
 impl<Q: Exact> IntervalSet<Q> {
     /// Whether each value of this set is in the other: each rational value, also where the type of

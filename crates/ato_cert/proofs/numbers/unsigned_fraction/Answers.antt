@@ -1,6 +1,6 @@
 use Rattle.std.proofs.Common.{◌∙◌, ap, sym, refl, ◌++◌, ◌∷◌}
 use Rattle.std.specs.Fmt.{decimal}
-use Rattle.ato_frac.specs.LowestTerms.{signed_of}
+use Rattle.ato_frac.specs.Signed.{signed_of}
 use Rattle.ato_cert.proofs.NumberLemmas.{size_small, no_digit}
 use Rattle.ato_cert.proofs.numbers.unsigned_fraction.Goals as goal
 

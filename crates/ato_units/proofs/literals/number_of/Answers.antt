@@ -13,7 +13,7 @@ pub returns-then-negative : goal.returns-then-negative
 returns-then-negative c =
     has_opposite _ c.args.negative c.in-Ok.size c.opposite.result
     (subst (λ (text : List ℕ). Reads text c.in-Ok.size) (c.as_bytes.ensures.value ∙ sym (encodes-chars c.args.digits.now c.utf8.digits)) c.in-Ok.ensures)
-    c.if-negative.true c.opposite.ensures
+    c.if-negative.true c.opposite.ensures.value
 
 pub returns-else-negative : goal.returns-else-negative
 returns-else-negative c =

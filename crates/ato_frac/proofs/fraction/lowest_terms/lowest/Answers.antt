@@ -1,6 +1,6 @@
 use Rattle.std.proofs.Common.{◌≡◌, unsigned_abs, to_z, of_z, ap, ◌∙◌}
 use Rattle.std.specs.Int.{w128}
-use Rattle.ato_frac.specs.LowestTerms.{signed_of}
+use Rattle.ato_frac.specs.Signed.{signed_of}
 use Rattle.ato_frac.proofs.LowestTerms.{unsigned_abs-signed, signed_stored}
 use Rattle.ato_frac.proofs.fraction.lowest_terms.lowest.Goals as goal
 use Rattle.ato_frac.proofs.fraction.lowest_terms.lowest.Goals.{After-signed}

@@ -1,7 +1,8 @@
 use Rattle.std.proofs.Common.{◌≡◌, ℕ, ℤ, pos, negsuc, ◌*ℤ◌, unsigned_abs, int_lt, true, Option, MatchOption, arith}
 use Rattle.std.proofs.lemmas.Int.{to_z-of_z, ints}
 use Rattle.ato_frac.specs.declared.fraction.Frac.{Frac}
-use Rattle.ato_frac.specs.LowestTerms.{signed_of, HasSmallTerms}
+use Rattle.ato_frac.specs.LowestTerms.{HasSmallTerms}
+use Rattle.ato_frac.specs.Signed.{signed_of}
 use Rattle.ato_frac.proofs.LowestTerms.{turned}
 use Rattle.ato_frac.proofs.fraction.parts.quotient.Goals as goal
 

@@ -1,6 +1,6 @@
 use Rattle.ato_rational.specs.Rational.{◌≈ℚ◌, power_ℚ}
-use Rattle.ato_interval.specs.Powers.{CanRaise}
-use Rattle.ato_interval.proofs.interval.folds.power.Given as goal
+use Rattle.ato_frac.specs.Powers.{CanRaise}
+use Rattle.ato_frac.proofs.powers.power.Given as goal
 
 -- the power so far is that of the counter
 abbrev pub invariant-factors : goal.invariant-factors

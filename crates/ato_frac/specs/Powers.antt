@@ -1,6 +1,10 @@
--- Powers of ends, multiplied out from the left.
+-- Where the absolute value and the powers of an exact number are there. Powers are multiplied out from the left.
 use Rattle.std.specs.Prelude.{ℕ, ◌<◌, ◌≤◌}
-use Rattle.ato_rational.specs.Rational.{ℚ, ◌≈ℚ◌, power_ℚ}
+use Rattle.ato_rational.specs.Rational.{ℚ, ◌≈ℚ◌, ◌<ℚ◌, power_ℚ, zero_ℚ}
+
+-- the absolute value of x is there: where x is below 0, the difference of 0 and x is
+abbrev pub CanTurn : {Q : Type 0} → (Q → ℚ) → (Q → Q → Type 0) → Q → Type 0
+CanTurn {Q} value can_subtract x = value x <ℚ zero_ℚ → (zero : Q) → value zero ≈ℚ zero_ℚ → can_subtract zero x
 
 -- R holds of the j-th power of x and x
 pub record AtPower {Q : Type 0} (value : Q → ℚ) (R : Q → Q → Type 0) (x : Q) (j : ℕ) : Type 0 where

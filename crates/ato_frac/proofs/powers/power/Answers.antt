@@ -1,5 +1,5 @@
-use Rattle.ato_interval.proofs.FoldLaws.{next_power, raised_more}
-use Rattle.ato_interval.proofs.interval.folds.power.Goals as goal
+use Rattle.ato_frac.proofs.PowerLaws.{next_power, raised_more}
+use Rattle.ato_frac.proofs.powers.power.Goals as goal
 
 pub factors-preserved : goal.factors-preserved
 factors-preserved g c = record {
