@@ -1,5 +1,5 @@
 use Rattle.ato_check.proofs.WholeLemmas.{not_valid}
 use Rattle.ato_check.proofs.checking.check.Goals as goal
 
-pub returns-in-Some-clause-right : goal.returns-in-Some-clause-right
-returns-in-Some-clause-right c = (not_valid c.args.problem.now c.args.cert.now c.in-Some.line c.requires.made c.in-Some.ensures, c.in-Some.ensures)
+pub returns-in-Some : goal.returns-in-Some
+returns-in-Some c = record { right = (not_valid c.args.problem.now c.args.cert.now c.in-Some.line c.requires.made c.in-Some.ensures, c.in-Some.ensures) }
