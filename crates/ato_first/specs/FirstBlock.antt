@@ -18,18 +18,18 @@ use Rattle.ato_first.specs.declared.first_block.Opening.TheVariants.{Bare, Signa
 use Rattle.ato_first.specs.declared.first_block.Reading.{Reading}
 
 -- The place lies in the source.
-pub record IsWithin (source : List ℕ) (at : Span) : Type 0 where
+pub record IsPlaceWithin (source : List ℕ) (at : Span) : Type 0 where
   pub order : at.start ≤ at.end
   pub within : at.end ≤ length source
 
 -- The contents of a text in quotes lie in the source.
 abbrev pub AreContentsWithin : List ℕ → TokenKind → Type 0
-AreContentsWithin source (kinds.Str at) = IsWithin source at
+AreContentsWithin source (kinds.Str at) = IsPlaceWithin source at
 AreContentsWithin source kind = Unit {0}
 
 -- The token and what it holds lie in the source.
 pub record IsPlaced (source : List ℕ) (t : Token) : Type 0 where
-  pub place : IsWithin source t.at
+  pub place : IsPlaceWithin source t.at
   pub contents : AreContentsWithin source t.kind
 
 -- what stands at a place

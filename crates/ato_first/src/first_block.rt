@@ -4,7 +4,7 @@ ghost use Rattle.ato_base.specs.declared.places.FileId.{FileId};
 ghost use Rattle.ato_lexer.specs.declared.first_form.Block.{Block};
 ghost use Rattle.ato_lexer.specs.FirstForm.{IsFile};
 ghost use Rattle.ato_lexer.specs.FirstTokens.{AreTokens};
-ghost use Rattle.ato_first.specs.FirstBlock.{IsWithin, IsPlaced, spelled_text, between, body_tokens, end_of, word_of, declared, closed, keyword_step, mark_step, text_step, kind_step, tokens_read};
+ghost use Rattle.ato_first.specs.FirstBlock.{IsPlaceWithin, IsPlaced, spelled_text, between, body_tokens, end_of, word_of, declared, closed, keyword_step, mark_step, text_step, kind_step, tokens_read};
 
 use ato_base::{Keyword, List, Mark, NoMemory, Span, Text, Token, TokenKind};
 use ato_lexer::{Assertion, Block, End, Line, Point};
@@ -57,7 +57,7 @@ fn ascii_text(alloc: Global, bytes: &[u8]) -> Result<Text, NoMemory>
 /// What stands at a place of the source.
 fn spelled_text(alloc: Global, source: &[u8], at: Span) -> Result<Text, NoMemory>
     requires ascii { IsAscii source.now }
-    requires within { IsWithin source.now at }
+    requires within { IsPlaceWithin source.now at }
     ensures { IfOk result (λ text. text ≡ spelled_text source.now at) }
 {
     ascii_text(alloc, &source[at.start as usize..at.end as usize])

@@ -13,7 +13,7 @@ use Rattle.ato_base.specs.declared.faults.Refusal.TheVariants as refusals
 use Rattle.ato_lexer.specs.FirstForm.{lined, end_text, line_text, lines_text, head_text, block_text, is_point, is_end, is_line, is_ascii_name, is_short_number, NoLine, NoHead, IsFile, bad_line}
 use Rattle.ato_lexer.specs.FirstTokens.{point_names, end_names, line_names, file_names, point_tokens, end_tokens, words_tokens, line_tokens, lines_tokens, label_token, name_token, number_token, range_tokens, token, head_tokens, last_tokens, AreTokens, IsRefused, syntax_fault}
 use Rattle.ato_base.specs.NameTable.{with_names, IsHeld, Extends}
-use Rattle.ato_lexer.specs.Statements.{point_of, end_of, line_of, IsPointText, IsEndText, IsStatement, words_text, AreRead, IsWholeFront}
+use Rattle.ato_lexer.specs.Statements.{read_point, read_end, read_line, IsPointText, IsEndText, IsStatement, words_text, AreRead, IsWholeFront}
 use Rattle.ato_lexer.specs.declared.first_form.Point.{Point}
 use Rattle.ato_lexer.specs.declared.first_form.Point.TheVariants.{Signal, Pin}
 use Rattle.ato_lexer.specs.declared.first_form.End.{End}
@@ -39,19 +39,19 @@ use Rattle.ato_lexer.proofs.BadLineLemmas.{whole_file, bad_line_within}
 
 -- A statement is a line of the form.
 
-point_is : (p : PointText) → IsPointText p → is_point (point_of p) ≡ true
+point_is : (p : PointText) → IsPointText p → is_point (read_point p) ≡ true
 point_is (points.Signal name) h = h
 point_is (points.NamedPin label) h = rw h refl
 point_is (points.NumberedPin digits) h = rw h.0 h.1
 
-end_is : (e : EndText) → IsEndText e → is_end (end_of e) ≡ true
+end_is : (e : EndText) → IsEndText e → is_end (read_end e) ≡ true
 end_is (ends.Name name) h = h
 end_is (ends.Declared point) h = point_is point h
 
-pub statement_line : (s : Statement) → IsStatement s → is_line (line_of s) ≡ true
+pub statement_line : (s : Statement) → IsStatement s → is_line (read_line s) ≡ true
 statement_line statements.Pass h = refl
 statement_line (statements.Declaration point) h = point_is point h
-statement_line (statements.Join left right) h = ap (λ b. b && is_end (end_of right)) (end_is left h.0) ∙ end_is right h.1
+statement_line (statements.Join left right) h = ap (λ b. b && is_end (read_end right)) (end_is left h.0) ∙ end_is right h.1
 statement_line (statements.Kind text) h = h
 statement_line (statements.Attribute name) h = h
 statement_line (statements.Assertion a) h =

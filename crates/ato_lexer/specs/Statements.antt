@@ -26,28 +26,28 @@ use Rattle.ato_lexer.specs.declared.statements.AssertionText.{AssertionText}
 use Rattle.ato_lexer.specs.declared.first_form.Assertion as asserted
 
 -- the point that is read
-abbrev pub point_of : PointText → Point
-point_of (Signal name) = points.Signal name.now
-point_of (NamedPin label) = points.Pin label.now
-point_of (NumberedPin digits) = points.Pin digits.now
+abbrev pub read_point : PointText → Point
+read_point (Signal name) = points.Signal name.now
+read_point (NamedPin label) = points.Pin label.now
+read_point (NumberedPin digits) = points.Pin digits.now
 
 -- the end that is read
-abbrev pub end_of : EndText → End
-end_of (Name name) = ends.Name name.now
-end_of (Declared point) = ends.Declared (point_of point)
+abbrev pub read_end : EndText → End
+read_end (Name name) = ends.Name name.now
+read_end (Declared point) = ends.Declared (read_point point)
 
 -- the assertion that is read
-abbrev pub assertion_of : AssertionText → asserted.Assertion
-assertion_of a = record { name = a.name.now; low = a.low.now; high = a.high.now }
+abbrev pub read_assertion : AssertionText → asserted.Assertion
+read_assertion a = record { name = a.name.now; low = a.low.now; high = a.high.now }
 
 -- the line that a statement is read from
-abbrev pub line_of : Statement → Line
-line_of Pass = lines.Pass
-line_of (Declaration point) = lines.Declaration (point_of point)
-line_of (Join left right) = lines.Join (end_of left) (end_of right)
-line_of (Kind text) = lines.Kind text.now
-line_of (Attribute name) = lines.Attribute name.now
-line_of (Assertion a) = lines.Assertion (assertion_of a)
+abbrev pub read_line : Statement → Line
+read_line Pass = lines.Pass
+read_line (Declaration point) = lines.Declaration (read_point point)
+read_line (Join left right) = lines.Join (read_end left) (read_end right)
+read_line (Kind text) = lines.Kind text.now
+read_line (Attribute name) = lines.Attribute name.now
+read_line (Assertion a) = lines.Assertion (read_assertion a)
 
 -- The name or label is of the form, and the kind of label is the right one.
 abbrev pub IsPointText : PointText → Type 0

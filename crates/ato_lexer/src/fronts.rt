@@ -3,7 +3,7 @@ ghost use Rattle.std.specs.List.{list_all, list_any};
 ghost use Rattle.std.specs.Str.{bytes_eq};
 ghost use Rattle.ato_lexer.specs.FirstForm.{lined, line_text, lines_text, is_line, bad_line, NoNext};
 ghost use Rattle.ato_lexer.specs.PartLines.{AreOnce, before_attribute, is_attribute_signal, point_signals, end_signals, line_signals, is_signal};
-ghost use Rattle.ato_lexer.specs.Statements.{point_of, end_of, line_of, IsStatement, IsFound, IsWholeFront};
+ghost use Rattle.ato_lexer.specs.Statements.{read_point, read_end, read_line, IsStatement, IsFound, IsWholeFront};
 ghost use Rattle.ato_lexer.specs.declared.first_form.Line.{Line};
 
 use crate::lines::next_statement;
@@ -41,9 +41,9 @@ impl<'a> Found<'a> {
     fn and(self, at: usize, statement: Statement<'a>) -> Option<Found<'a>>
         ensures { (place : ℕ) (lines : List Line) → AreOnce lines → IsFound self.entry place lines
             → at ≡ place + length (lines_text lines)
-            → MatchOption result (AreOnce (lines ++ line_of statement.entry ∷ []) → ⊥)
-            (λ found. AreOnce (lines ++ line_of statement.entry ∷ [])
-            × IsFound found place (lines ++ line_of statement.entry ∷ [])) }
+            → MatchOption result (AreOnce (lines ++ read_line statement.entry ∷ []) → ⊥)
+            (λ found. AreOnce (lines ++ read_line statement.entry ∷ [])
+            × IsFound found place (lines ++ read_line statement.entry ∷ [])) }
     {
         match statement {
             Statement::Kind(_) if self.kind => None,
@@ -97,7 +97,7 @@ impl<'a> Found<'a> {
 }
 
 fn point_declares(point: PointText, name: &str) -> bool
-    ensures { result ≡ list_any (bytes_eq name.now) (point_signals (point_of point.entry)) }
+    ensures { result ≡ list_any (bytes_eq name.now) (point_signals (read_point point.entry)) }
 {
     match point {
         PointText::Signal(signal) => name == signal,
@@ -106,7 +106,7 @@ fn point_declares(point: PointText, name: &str) -> bool
 }
 
 fn end_declares(end: EndText, name: &str) -> bool
-    ensures { result ≡ list_any (bytes_eq name.now) (end_signals (end_of end.entry)) }
+    ensures { result ≡ list_any (bytes_eq name.now) (end_signals (read_end end.entry)) }
 {
     match end {
         EndText::Name(_) => false,
@@ -116,7 +116,7 @@ fn end_declares(end: EndText, name: &str) -> bool
 
 /// Whether a line declares a signal of a name.
 fn declares(statement: Statement, name: &str) -> bool
-    ensures { result ≡ list_any (bytes_eq name.now) (line_signals (line_of statement.entry)) }
+    ensures { result ≡ list_any (bytes_eq name.now) (line_signals (read_line statement.entry)) }
 {
     match statement {
         Statement::Declaration(point) => point_declares(point, name),
@@ -160,11 +160,11 @@ impl<'a> Front<'a> {
     /// The next line, which begins at a byte of the file, and the front with it.
     pub(crate) fn next(self, at: usize) -> Option<(Statement<'a>, Front<'a>)>
         ensures line { IfSome result (λ next.
-            (self.entry.rest.now ≡ lined (line_text (line_of next.0)) ++ next.1.rest.now) × IsStatement next.0) }
+            (self.entry.rest.now ≡ lined (line_text (read_line next.0)) ++ next.1.rest.now) × IsStatement next.0) }
         ensures front { (place : ℕ) (lines : List Line) → AreOnce lines → IsFound self.entry.found place lines
             → at ≡ place + length (lines_text lines)
             → MatchOption result (NoNext lines self.entry.rest.now)
-            (λ next. AreOnce (lines ++ line_of next.0 ∷ []) × IsFound next.1.found place (lines ++ line_of next.0 ∷ [])) }
+            (λ next. AreOnce (lines ++ read_line next.0 ∷ []) × IsFound next.1.found place (lines ++ read_line next.0 ∷ [])) }
     {
         match next_statement(self.rest) {
             None => None,

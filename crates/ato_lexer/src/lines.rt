@@ -1,7 +1,7 @@
 ghost use Rattle.std.specs.Prelude.{◌≡◌, ◌++◌, ◌==◌, MatchOption, false, true, ℕ, List};
 ghost use Rattle.std.specs.List.{list_any};
 ghost use Rattle.ato_lexer.specs.FirstForm.{lined, point_text, end_text, line_text, is_point, is_end, is_line, head_text, is_ascii_name, is_label, NoLine};
-ghost use Rattle.ato_lexer.specs.Statements.{point_of, end_of, line_of, IsPointText, IsEndText, IsStatement, with_tilde, words_text};
+ghost use Rattle.ato_lexer.specs.Statements.{read_point, read_end, read_line, IsPointText, IsEndText, IsStatement, with_tilde, words_text};
 ghost use Rattle.ato_lexer.specs.declared.first_form.Point.{Point};
 ghost use Rattle.ato_lexer.specs.declared.first_form.End.{End};
 ghost use Rattle.ato_lexer.specs.declared.first_form.Line.{Line};
@@ -26,7 +26,7 @@ pub(crate) fn head_of(text: &[u8]) -> Option<&str>
 }
 
 fn signal_of(name: &[u8]) -> Option<PointText<'_>>
-    ensures { MatchOption result (is_ascii_name name.now ≡ false) (λ found. (point_of found ≡ Point.Signal name.now) × IsPointText found) }
+    ensures { MatchOption result (is_ascii_name name.now ≡ false) (λ found. (read_point found ≡ Point.Signal name.now) × IsPointText found) }
 {
     match name_of(name) {
         None => None,
@@ -35,7 +35,7 @@ fn signal_of(name: &[u8]) -> Option<PointText<'_>>
 }
 
 fn pin_of(label: &[u8]) -> Option<PointText<'_>>
-    ensures { MatchOption result (is_label label.now ≡ false) (λ found. (point_of found ≡ Point.Pin label.now) × IsPointText found) }
+    ensures { MatchOption result (is_label label.now ≡ false) (λ found. (read_point found ≡ Point.Pin label.now) × IsPointText found) }
 {
     if let Some(name) = name_of(label) {
         return Some(PointText::NamedPin(name));
@@ -51,7 +51,7 @@ fn pin_of(label: &[u8]) -> Option<PointText<'_>>
 fn point_of(text: &[u8]) -> Option<PointText<'_>>
     ensures { MatchOption result
         ((point : Point) → is_point point ≡ true → text.now ≡ point_text point → ⊥)
-        (λ found. (text.now ≡ point_text (point_of found)) × IsPointText found) }
+        (λ found. (text.now ≡ point_text (read_point found)) × IsPointText found) }
 {
     if let Some(name) = after(text, b"signal ") {
         return signal_of(name);
@@ -66,7 +66,7 @@ fn point_of(text: &[u8]) -> Option<PointText<'_>>
 fn end_of(text: &[u8]) -> Option<EndText<'_>>
     ensures { MatchOption result
         ((end : End) → is_end end ≡ true → text.now ≡ end_text end → ⊥)
-        (λ found. (text.now ≡ end_text (end_of found)) × IsEndText found) }
+        (λ found. (text.now ≡ end_text (read_end found)) × IsEndText found) }
 {
     if let Some(point) = point_of(text) {
         return Some(EndText::Declared(point));
@@ -93,7 +93,7 @@ fn sides(text: &[u8]) -> Option<(&[u8], &[u8])>
 fn join_of(text: &[u8]) -> Option<(EndText<'_>, EndText<'_>)>
     ensures { MatchOption result
         ((left right : End) → is_end left ≡ true → is_end right ≡ true → text.now ≡ with_tilde (end_text left) (end_text right) → ⊥)
-        (λ ends. (text.now ≡ with_tilde (end_text (end_of ends.0)) (end_text (end_of ends.1))) × IsEndText ends.0 × IsEndText ends.1) }
+        (λ ends. (text.now ≡ with_tilde (end_text (read_end ends.0)) (end_text (read_end ends.1))) × IsEndText ends.0 × IsEndText ends.1) }
 {
     let (left, right) = sides(text)?;
     Some((end_of(left)?, end_of(right)?))
@@ -103,7 +103,7 @@ fn join_of(text: &[u8]) -> Option<(EndText<'_>, EndText<'_>)>
 fn words_of(text: &[u8]) -> Option<Statement<'_>>
     ensures { MatchOption result
         ((line : Line) → is_line line ≡ true → text.now ≡ words_text line → ⊥)
-        (λ found. (text.now ≡ words_text (line_of found)) × IsStatement found) }
+        (λ found. (text.now ≡ words_text (read_line found)) × IsStatement found) }
 {
     if text == b"pass".as_slice() {
         return Some(Statement::Pass);
@@ -131,7 +131,7 @@ fn words_of(text: &[u8]) -> Option<Statement<'_>>
 fn statement_of(text: &[u8]) -> Option<Statement<'_>>
     ensures { MatchOption result
         ((line : Line) → is_line line ≡ true → text.now ≡ line_text line → ⊥)
-        (λ found. (text.now ≡ line_text (line_of found)) × IsStatement found) }
+        (λ found. (text.now ≡ line_text (read_line found)) × IsStatement found) }
 {
     match after(text, b"    ") {
         None => None,
@@ -143,7 +143,7 @@ fn statement_of(text: &[u8]) -> Option<Statement<'_>>
 #[tactic(auto, using(crate::proofs::FirstFormLemmas::no_line_end, crate::proofs::FirstFormLemmas::other_line))]
 pub(crate) fn next_statement(bytes: &[u8]) -> Option<(Statement<'_>, &[u8])>
     ensures { MatchOption result (NoLine bytes.now)
-        (λ next. (bytes.now ≡ lined (line_text (line_of next.0)) ++ next.1.now) × IsStatement next.0) }
+        (λ next. (bytes.now ≡ lined (line_text (read_line next.0)) ++ next.1.now) × IsStatement next.0) }
 {
     match first_line(bytes) {
         None => None,

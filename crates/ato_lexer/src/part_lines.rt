@@ -1,7 +1,7 @@
 ghost use Rattle.std.specs.Prelude.{◌≡◌, ◌++◌, ◌∷◌, ◌==◌, MatchOption, false, true, List, ℕ, codes};
 ghost use Rattle.std.specs.List.{list_any};
 ghost use Rattle.ato_lexer.specs.FirstForm.{is_line, is_kind_text, is_attribute_name, is_short_number};
-ghost use Rattle.ato_lexer.specs.Statements.{assertion_of, IsAssertionText, words_text};
+ghost use Rattle.ato_lexer.specs.Statements.{read_assertion, IsAssertionText, words_text};
 ghost use Rattle.ato_lexer.specs.declared.first_form.Assertion as asserted;
 ghost use Rattle.ato_lexer.specs.declared.first_form.Line.{Line};
 
@@ -74,7 +74,7 @@ fn range_of(text: &[u8]) -> Option<(&[u8], &[u8])>
 pub(crate) fn assertion_of(text: &[u8]) -> Option<AssertionText<'_>>
     ensures { MatchOption result
         ((assertion : asserted.Assertion) → is_line (Line.Assertion assertion) ≡ true → text.now ≡ words_text (Line.Assertion assertion) → ⊥)
-        (λ found. IsAssertionText found × (text.now ≡ words_text (Line.Assertion (assertion_of found)))) }
+        (λ found. IsAssertionText found × (text.now ≡ words_text (Line.Assertion (read_assertion found)))) }
 {
     let claim = after(text, b"assert ")?;
     let (word, range) = around(claim, b"within ")?;

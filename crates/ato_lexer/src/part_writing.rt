@@ -2,7 +2,7 @@ ghost use Rattle.std.specs.Prelude.{◌≡◌, ◌++◌, ◌+◌, ◌<◌, ◌^�
 ghost use Rattle.ato_lexer.specs.FirstForm.{line_text, is_short_number};
 ghost use Rattle.ato_lexer.specs.FirstTokens.{quoted_token, range_tokens, words_tokens, line_names};
 ghost use Rattle.ato_base.specs.NameTable.{with_names, IsHeld, Extends};
-ghost use Rattle.ato_lexer.specs.Statements.{assertion_of, IsAssertionText};
+ghost use Rattle.ato_lexer.specs.Statements.{read_assertion, IsAssertionText};
 ghost use Rattle.ato_lexer.specs.declared.first_form.Line.{Line};
 
 use crate::statements::AssertionText;
@@ -95,12 +95,12 @@ pub(crate) fn push_assertion(
     at: usize,
     assertion: AssertionText,
 ) -> Result<usize, NoMemory>
-    requires size { at + length (line_text (Line.Assertion (assertion_of assertion))) < 2 ^ 32 }
+    requires size { at + length (line_text (Line.Assertion (read_assertion assertion))) < 2 ^ 32 }
     requires assertion { IsAssertionText assertion }
-    ensures stop { IfOk result (λ stop. stop ≡ at + length (line_text (Line.Assertion (assertion_of assertion.entry)))) }
-    ensures pushed { OnOk result (tokens.new ≡ tokens.old ++ words_tokens names.new file at (Line.Assertion (assertion_of assertion.entry))) }
-    ensures held { OnOk result (All (IsHeld names.new) (line_names (Line.Assertion (assertion_of assertion.entry)))) }
-    ensures mentioned { OnOk result (names.new ≡ with_names names.old (line_names (Line.Assertion (assertion_of assertion.entry)))) }
+    ensures stop { IfOk result (λ stop. stop ≡ at + length (line_text (Line.Assertion (read_assertion assertion.entry)))) }
+    ensures pushed { OnOk result (tokens.new ≡ tokens.old ++ words_tokens names.new file at (Line.Assertion (read_assertion assertion.entry))) }
+    ensures held { OnOk result (All (IsHeld names.new) (line_names (Line.Assertion (read_assertion assertion.entry)))) }
+    ensures mentioned { OnOk result (names.new ≡ with_names names.old (line_names (Line.Assertion (read_assertion assertion.entry)))) }
     ensures names { Extends names.old names.new }
 {
     push_keyword(tokens, file, Keyword::Assert, at + 4, at + 10)?;

@@ -5,7 +5,7 @@ ghost use Rattle.ato_lexer.specs.FirstTokens.{token, small_value, name_token, nu
 ghost use Rattle.ato_base.specs.NameTable.{with_names, IsHeld, Extends};
 ghost use Rattle.ato_lexer.specs.declared.first_form.Line.{Line};
 ghost use Rattle.ato_lexer.specs.declared.first_form.Point.{Point};
-ghost use Rattle.ato_lexer.specs.Statements.{point_of, end_of, line_of, IsPointText, IsEndText, IsStatement};
+ghost use Rattle.ato_lexer.specs.Statements.{read_point, read_end, read_line, IsPointText, IsEndText, IsStatement};
 
 use crate::part_writing::{push_assertion, push_attribute, push_kind};
 use crate::statements::{EndText, PointText, Statement};
@@ -196,12 +196,12 @@ fn push_point(
     at: usize,
     point: PointText,
 ) -> Result<usize, NoMemory>
-    requires size { at + length (point_text (point_of point)) < 2 ^ 32 }
+    requires size { at + length (point_text (read_point point)) < 2 ^ 32 }
     requires point { IsPointText point }
-    ensures stop { IfOk result (λ stop. stop ≡ at + length (point_text (point_of point.entry))) }
-    ensures pushed { OnOk result (tokens.new ≡ tokens.old ++ point_tokens names.new file at (point_of point.entry)) }
-    ensures held { OnOk result (All (IsHeld names.new) (point_names (point_of point.entry))) }
-    ensures mentioned { OnOk result (names.new ≡ with_names names.old (point_names (point_of point.entry))) }
+    ensures stop { IfOk result (λ stop. stop ≡ at + length (point_text (read_point point.entry))) }
+    ensures pushed { OnOk result (tokens.new ≡ tokens.old ++ point_tokens names.new file at (read_point point.entry)) }
+    ensures held { OnOk result (All (IsHeld names.new) (point_names (read_point point.entry))) }
+    ensures mentioned { OnOk result (names.new ≡ with_names names.old (point_names (read_point point.entry))) }
     ensures names { Extends names.old names.new }
 {
     match point {
@@ -219,12 +219,12 @@ fn push_end(
     at: usize,
     end: EndText,
 ) -> Result<usize, NoMemory>
-    requires size { at + length (end_text (end_of end)) < 2 ^ 32 }
+    requires size { at + length (end_text (read_end end)) < 2 ^ 32 }
     requires end { IsEndText end }
-    ensures stop { IfOk result (λ stop. stop ≡ at + length (end_text (end_of end.entry))) }
-    ensures pushed { OnOk result (tokens.new ≡ tokens.old ++ end_tokens names.new file at (end_of end.entry)) }
-    ensures held { OnOk result (All (IsHeld names.new) (end_names (end_of end.entry))) }
-    ensures mentioned { OnOk result (names.new ≡ with_names names.old (end_names (end_of end.entry))) }
+    ensures stop { IfOk result (λ stop. stop ≡ at + length (end_text (read_end end.entry))) }
+    ensures pushed { OnOk result (tokens.new ≡ tokens.old ++ end_tokens names.new file at (read_end end.entry)) }
+    ensures held { OnOk result (All (IsHeld names.new) (end_names (read_end end.entry))) }
+    ensures mentioned { OnOk result (names.new ≡ with_names names.old (end_names (read_end end.entry))) }
     ensures names { Extends names.old names.new }
 {
     match end {
@@ -250,13 +250,13 @@ fn push_join(
     left: EndText,
     right: EndText,
 ) -> Result<usize, NoMemory>
-    requires size { at + length (line_text (Line.Join (end_of left) (end_of right))) < 2 ^ 32 }
+    requires size { at + length (line_text (Line.Join (read_end left) (read_end right))) < 2 ^ 32 }
     requires left { IsEndText left }
     requires right { IsEndText right }
-    ensures stop { IfOk result (λ stop. stop ≡ at + length (line_text (Line.Join (end_of left.entry) (end_of right.entry)))) }
-    ensures pushed { OnOk result (tokens.new ≡ tokens.old ++ words_tokens names.new file at (Line.Join (end_of left.entry) (end_of right.entry))) }
-    ensures held { OnOk result (All (IsHeld names.new) (line_names (Line.Join (end_of left.entry) (end_of right.entry)))) }
-    ensures mentioned { OnOk result (names.new ≡ with_names names.old (line_names (Line.Join (end_of left.entry) (end_of right.entry)))) }
+    ensures stop { IfOk result (λ stop. stop ≡ at + length (line_text (Line.Join (read_end left.entry) (read_end right.entry)))) }
+    ensures pushed { OnOk result (tokens.new ≡ tokens.old ++ words_tokens names.new file at (Line.Join (read_end left.entry) (read_end right.entry))) }
+    ensures held { OnOk result (All (IsHeld names.new) (line_names (Line.Join (read_end left.entry) (read_end right.entry)))) }
+    ensures mentioned { OnOk result (names.new ≡ with_names names.old (line_names (Line.Join (read_end left.entry) (read_end right.entry)))) }
     ensures names { Extends names.old names.new }
 {
     let stop = push_end(tokens, names, file, at + 4, left)?;
@@ -273,12 +273,12 @@ fn push_words(
     at: usize,
     statement: Statement,
 ) -> Result<usize, NoMemory>
-    requires size { at + length (line_text (line_of statement)) < 2 ^ 32 }
+    requires size { at + length (line_text (read_line statement)) < 2 ^ 32 }
     requires statement { IsStatement statement }
-    ensures stop { IfOk result (λ stop. stop ≡ at + length (line_text (line_of statement.entry))) }
-    ensures pushed { OnOk result (tokens.new ≡ tokens.old ++ words_tokens names.new file at (line_of statement.entry)) }
-    ensures held { OnOk result (All (IsHeld names.new) (line_names (line_of statement.entry))) }
-    ensures mentioned { OnOk result (names.new ≡ with_names names.old (line_names (line_of statement.entry))) }
+    ensures stop { IfOk result (λ stop. stop ≡ at + length (line_text (read_line statement.entry))) }
+    ensures pushed { OnOk result (tokens.new ≡ tokens.old ++ words_tokens names.new file at (read_line statement.entry)) }
+    ensures held { OnOk result (All (IsHeld names.new) (line_names (read_line statement.entry))) }
+    ensures mentioned { OnOk result (names.new ≡ with_names names.old (line_names (read_line statement.entry))) }
     ensures names { Extends names.old names.new }
 {
     match statement {
@@ -299,11 +299,11 @@ pub(crate) fn push_statement(
     at: usize,
     statement: Statement,
 ) -> Result<(), NoMemory>
-    requires size { at + length (line_text (line_of statement)) < 2 ^ 32 }
+    requires size { at + length (line_text (read_line statement)) < 2 ^ 32 }
     requires statement { IsStatement statement }
-    ensures pushed { OnOk result (tokens.new ≡ tokens.old ++ line_tokens names.new file at (line_of statement.entry)) }
-    ensures held { OnOk result (All (IsHeld names.new) (line_names (line_of statement.entry))) }
-    ensures mentioned { OnOk result (names.new ≡ with_names names.old (line_names (line_of statement.entry))) }
+    ensures pushed { OnOk result (tokens.new ≡ tokens.old ++ line_tokens names.new file at (read_line statement.entry)) }
+    ensures held { OnOk result (All (IsHeld names.new) (line_names (read_line statement.entry))) }
+    ensures mentioned { OnOk result (names.new ≡ with_names names.old (line_names (read_line statement.entry))) }
     ensures names { Extends names.old names.new }
 {
     let stop = push_words(tokens, names, file, at, statement)?;

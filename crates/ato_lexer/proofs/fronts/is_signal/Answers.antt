@@ -1,5 +1,5 @@
 use Rattle.std.proofs.Common.{◌∷◌, [], ◌++◌}
-use Rattle.ato_lexer.specs.Statements.{line_of}
+use Rattle.ato_lexer.specs.Statements.{read_line}
 use Rattle.ato_lexer.proofs.FirstFormLemmas.{text_more, are_more}
 use Rattle.ato_lexer.proofs.Reading.{statement_line}
 use Rattle.ato_lexer.proofs.SignalLemmas.{signal_more, signal_all}
@@ -8,7 +8,7 @@ use Rattle.ato_lexer.proofs.fronts.is_signal.Goals as goal
 pub loop-statement-preserved : goal.loop-statement-preserved
 loop-statement-preserved c =
     let (lines, are, text, is) = c.loop-statement.invariant in
-    let line = line_of c.in-Some.statement in (
+    let line = read_line c.in-Some.statement in (
       lines ++ line ∷ [],
       are_more lines line are (statement_line c.in-Some.statement c.in-Some.ensures.1),
       text_more c.args.bytes.now c.loop-statement.rest.now c.in-Some.more.now lines line text c.in-Some.ensures.0,

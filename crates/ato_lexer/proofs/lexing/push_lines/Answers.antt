@@ -1,5 +1,5 @@
 use Rattle.std.proofs.Common.{◌∷◌, [], ◌++◌, sym, refl, arith, append-nil}
-use Rattle.ato_lexer.specs.Statements.{line_of}
+use Rattle.ato_lexer.specs.Statements.{read_line}
 use Rattle.ato_base.proofs.NameTableLaws.{extends_more}
 use Rattle.ato_lexer.proofs.Reading.{rest_place, read_none, read_more, mentioned_more, statement_line}
 use Rattle.ato_lexer.proofs.lexing.push_lines.Goals as goal
@@ -19,7 +19,7 @@ loop-front-init c = record {
 pub loop-front-preserved : goal.loop-front-preserved
 loop-front-preserved c =
     let (lines, read, once, found, mentioned) = c.loop-front.invariant.read in
-    let line = line_of c.in-Some.statement in
+    let line = read_line c.in-Some.statement in
     let next = c.in-Some.ensures.front c.args.place lines once found (rest_place c.args.place c.args.bytes.now c.loop-front.front.rest.now lines read.text) in
     record {
       read = (

@@ -1,5 +1,5 @@
 use Rattle.std.proofs.Common.{refl}
-use Rattle.ato_lexer.specs.Statements.{point_of, end_of, assertion_of}
+use Rattle.ato_lexer.specs.Statements.{read_point, read_end, read_assertion}
 use Rattle.ato_lexer.specs.declared.first_form.Line.TheVariants as forms
 use Rattle.ato_lexer.proofs.FoundLemmas.{second_kind, second_attribute, second_assertion, with_kind, with_attribute, with_assertion, with_other}
 use Rattle.ato_lexer.proofs.fronts.Found.and.Goals as goal
@@ -18,16 +18,16 @@ returns-in-None c =
     rw c.in-Attribute.is (λ place lines once found at. with_attribute c.args.self place lines (record { name = c.in-Attribute.name; at = c.args.at }) c.in-None.is once found at)
 
 pub returns-in-Assertion : goal.returns-in-Assertion
-returns-in-Assertion c = rw c.in-Assertion.is (λ place lines once found at again. second_assertion c.args.self place lines (assertion_of c.in-Assertion.field-0) c.if-self-2.true found again)
+returns-in-Assertion c = rw c.in-Assertion.is (λ place lines once found at again. second_assertion c.args.self place lines (read_assertion c.in-Assertion.field-0) c.if-self-2.true found again)
 
 pub returns-in-Assertion-2 : goal.returns-in-Assertion-2
-returns-in-Assertion-2 c = rw c.in-Assertion-2.is (λ place lines once found at. with_assertion c.args.self place lines (assertion_of c.in-Assertion-2.field-0) c.if-self-2.false once found)
+returns-in-Assertion-2 c = rw c.in-Assertion-2.is (λ place lines once found at. with_assertion c.args.self place lines (read_assertion c.in-Assertion-2.field-0) c.if-self-2.false once found)
 
 pub returns-in-Pass : goal.returns-in-Pass
 returns-in-Pass c = rw c.in-Pass.is (λ place lines once found at. with_other c.args.self place lines forms.Pass refl refl refl once found)
 
 pub returns-in-Declaration : goal.returns-in-Declaration
-returns-in-Declaration c = rw c.in-Declaration.is (λ place lines once found at. with_other c.args.self place lines (forms.Declaration (point_of c.in-Declaration.field-0)) refl refl refl once found)
+returns-in-Declaration c = rw c.in-Declaration.is (λ place lines once found at. with_other c.args.self place lines (forms.Declaration (read_point c.in-Declaration.field-0)) refl refl refl once found)
 
 pub returns-in-Join : goal.returns-in-Join
-returns-in-Join c = rw c.in-Join.is (λ place lines once found at. with_other c.args.self place lines (forms.Join (end_of c.in-Join.field-0) (end_of c.in-Join.field-1)) refl refl refl once found)
+returns-in-Join c = rw c.in-Join.is (λ place lines once found at. with_other c.args.self place lines (forms.Join (read_end c.in-Join.field-0) (read_end c.in-Join.field-1)) refl refl refl once found)
