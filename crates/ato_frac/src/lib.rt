@@ -6,7 +6,8 @@
 //! fraction's, `IsInRange` of specs/Range.antt says which values have a fraction, `CanAdd` and its
 //! kin which operations have a result, and `Reads` of specs/Decimals.antt which texts give which
 //! fraction. `Exact` and `Divides` are the contract of every type of exact numbers, so that what
-//! stands above is proved once for all of them.
+//! stands above is proved once for all of them: here the order (`at_most`, `lesser`, `greater`),
+//! absolute values and powers, of which specs/Powers.antt says where they are there.
 #![tactic(auto)]
 
 mod coin;
