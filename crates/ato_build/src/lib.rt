@@ -21,8 +21,6 @@ mod refusing;
 mod running;
 mod settling;
 mod status;
-#[cfg(test)]
-mod tests;
 mod texts;
 
 pub use ato_words::{Build, Check, Task, job};

@@ -1,5 +1,4 @@
-use super::{files, run_over, words};
-use crate::run;
+use crate::runs::{code_of, files, run_over, wide_sink};
 use ato_base::{List, NoMemory, Text};
 use ato_outside::{MemShelf, MemSink, SureTray};
 use std::alloc::Global;
@@ -35,66 +34,64 @@ fn check_over(
     }
     let mut shelf = MemShelf::new(held, failing);
     let mut tray = SureTray::new(alloc);
-    let mut sink = MemSink::new(alloc, 200, List::new(alloc))?;
-    let status = run(alloc, &words(alloc, JOB)?, &mut shelf, &mut tray, &mut sink);
-    let put = ["out.net", "out.csv", "out.cert"]
-        .iter()
-        .any(|name| tray.get(name).is_some());
-    Ok((if put { 99 } else { status.code() }, sink))
+    let mut sink = wide_sink(alloc)?;
+    let code = code_of(alloc, JOB, &mut shelf, &mut tray, &mut sink)?;
+    let put = tray.get("out.net").is_some()
+        || tray.get("out.csv").is_some()
+        || tray.get("out.cert").is_some();
+    Ok((if put { 99 } else { code }, sink))
+}
+
+/// Rows, what is asserted, and the verdict.
+const BUILDS: &[(&str, &str, &str)] = &[
+    ("A,k,1 to 3\nB,k,2\n", "2 to 4", "built"),
+    ("A,k,1 to 3\nB,k,2\n", "4 to 5", "refuted"),
+    (
+        "A,j,3\nB,k,4 to 6\nC,k,8 to 9\nD,k,1 to 8\n",
+        "5 to 8",
+        "refuted",
+    ),
+    ("A,j,1\n", "2 to 4", "refuted"),
+];
+
+/// Whether the certificate of a build is accepted with this verdict.
+fn is_accepted(alloc: Global, rows: &str, asserted: &str, verdict: &str) -> Result<bool, NoMemory> {
+    let text = source(alloc, asserted)?;
+    let rows = format!(in alloc; "part,kind,x\n{rows}")?;
+    let job = "build main.ato:E cat.csv";
+    let (_, tray, _) = run_over(alloc, text.as_bytes(), rows.as_bytes(), job)?;
+    let cert = tray.get("out.cert");
+    let (code, sink) = check_over(alloc, text.as_bytes(), rows.as_bytes(), cert, &[])?;
+    let want = format!(in alloc; "accepted {verdict}\n")?;
+    Ok(code == 0 && sink.written() == want.as_bytes())
 }
 
 #[test]
 fn what_a_build_puts_is_accepted(rt: HostRuntime) -> Result<(), Fail> {
-    let alloc = rt.alloc();
-    for (rows, asserted, verdict) in [
-        ("A,k,1 to 3\nB,k,2\n", "2 to 4", "built"),
-        ("A,k,1 to 3\nB,k,2\n", "4 to 5", "refuted"),
-        (
-            "A,j,3\nB,k,4 to 6\nC,k,8 to 9\nD,k,1 to 8\n",
-            "5 to 8",
-            "refuted",
-        ),
-        ("A,j,1\n", "2 to 4", "refuted"),
-    ] {
-        let text = source(alloc, asserted)?;
-        let rows = format!(in alloc; "part,kind,x\n{rows}")?;
-        let job = "build main.ato:E cat.csv";
-        let (_, tray, _) = run_over(alloc, text.as_bytes(), rows.as_bytes(), job)?;
-        let cert = tray.get("out.cert");
-        let (code, sink) = check_over(alloc, text.as_bytes(), rows.as_bytes(), cert, &[])?;
-        let want = format!(in alloc; "accepted {verdict}\n")?;
-        assert_eq!(rt; (code, sink.written()), (0, want.as_bytes()), "{rows}");
+    for (rows, asserted, verdict) in BUILDS {
+        assert!(rt; is_accepted(rt.alloc(), rows, asserted, verdict)?, "{rows}");
     }
     Ok(())
 }
 
-/// What a check gives where the first row is of another kind.
-fn said_of_two_kinds(alloc: Global, cert: &[u8]) -> Result<(u8, MemSink), NoMemory> {
-    let text = source(alloc, "2 to 4")?;
-    let rows = b"part,kind,x\nA,j,3\nB,k,3\n";
-    check_over(alloc, text.as_bytes(), rows, Some(cert), &[])
-}
+const TWO_KINDS: &[u8] = b"part,kind,x\nA,j,3\nB,k,3\n";
 
-/// Picks, and the status with what is printed.
-const PICKS: &[(u32, u8, &str)] = &[(1, 9, "rejected line 4\n"), (2, 0, "accepted built\n")];
+/// Whether a check of this pick, where the first row is of another kind, ends so.
+fn ends_with_pick(alloc: Global, pick: u32, code: u8, want: &str) -> Result<bool, NoMemory> {
+    let cert = format!(in alloc;
+        "ato-certificate 1\nverdict built\nsteps 1\npick {pick}\ncheck 1\nholds\nend\n"
+    )?;
+    let text = source(alloc, "2 to 4")?;
+    let cert = Some(cert.as_bytes());
+    let (found, sink) = check_over(alloc, text.as_bytes(), TWO_KINDS, cert, &[])?;
+    Ok(found == code && sink.written() == want.as_bytes())
+}
 
 #[test]
 fn a_row_of_another_kind_is_no_pick(rt: HostRuntime) -> Result<(), Fail> {
-    for (pick, code, want) in PICKS {
-        let cert = format!(in rt.alloc();
-            "ato-certificate 1\nverdict built\nsteps 1\npick {pick}\ncheck 1\nholds\nend\n"
-        )?;
-        let (status, sink) = said_of_two_kinds(rt.alloc(), cert.as_bytes())?;
-        assert_eq!(rt; status, *code, "{pick}");
-        assert_eq!(rt; sink.written(), want.as_bytes(), "{pick}");
-    }
+    assert!(rt; ends_with_pick(rt.alloc(), 1, 9, "rejected line 4\n")?);
+    assert!(rt; ends_with_pick(rt.alloc(), 2, 0, "accepted built\n")?);
     Ok(())
-}
-
-/// What a check gives where the component has no part.
-fn said_without_slot(alloc: Global, cert: &[u8]) -> Result<(u8, MemSink), NoMemory> {
-    let source = b"component E:\n    pin 1\n";
-    check_over(alloc, source, b"part,kind\n", Some(cert), &[])
 }
 
 /// Texts after `verdict `, and the status with what is printed.
@@ -105,13 +102,22 @@ const WITHOUT_SLOT: &[(&str, u8, &str)] = &[
     ("refuted\nsteps 1\nempty 1\n", 9, "rejected line 4\n"),
 ];
 
+/// Whether a check of these lines, where the component has no part, ends so.
+fn ends_without_slot(alloc: Global, lines: &str, code: u8, want: &str) -> Result<bool, NoMemory> {
+    let source = b"component E:\n    pin 1\n";
+    let cert = format!(in alloc; "ato-certificate 1\nverdict {lines}")?;
+    let cert = Some(cert.as_bytes());
+    let (found, sink) = check_over(alloc, source, b"part,kind\n", cert, &[])?;
+    Ok(found == code && sink.written() == want.as_bytes())
+}
+
 #[test]
 fn a_certificate_without_a_slot(rt: HostRuntime) -> Result<(), Fail> {
     for (lines, code, want) in WITHOUT_SLOT {
-        let cert = format!(in rt.alloc(); "ato-certificate 1\nverdict {lines}")?;
-        let (status, sink) = said_without_slot(rt.alloc(), cert.as_bytes())?;
-        assert_eq!(rt; status, *code, "{lines}");
-        assert_eq!(rt; sink.written(), want.as_bytes(), "{lines}");
+        assert!(rt;
+            ends_without_slot(rt.alloc(), lines, *code, want)?,
+            "{lines}"
+        );
     }
     Ok(())
 }
@@ -121,6 +127,19 @@ fn said_of(alloc: Global, asserted: &str, cert: &[u8]) -> Result<(u8, MemSink), 
     let text = source(alloc, asserted)?;
     let rows = b"part,kind,x\nA,k,1 to 3\nB,k,2\n";
     check_over(alloc, text.as_bytes(), rows, Some(cert), &[])
+}
+
+/// Whether a certificate is rejected at this line.
+fn is_bad_at(alloc: Global, asserted: &str, cert: &[u8], line: u32) -> Result<bool, NoMemory> {
+    let want = format!(in alloc; "rejected line {line}\n")?;
+    let (code, sink) = said_of(alloc, asserted, cert)?;
+    Ok(code == 9 && sink.written() == want.as_bytes())
+}
+
+/// The same of the lines after the word `verdict`.
+fn are_bad_at(alloc: Global, asserted: &str, lines: &str, line: u32) -> Result<bool, NoMemory> {
+    let cert = format!(in alloc; "ato-certificate 1\nverdict {lines}")?;
+    is_bad_at(alloc, asserted, cert.as_bytes(), line)
 }
 
 /// What is asserted, whole texts, and their first bad lines.
@@ -188,15 +207,13 @@ const PROOFS: &[(&str, &str, u32)] = &[
 #[test]
 fn spoiled_certificates_name_their_first_bad_line(rt: HostRuntime) -> Result<(), Fail> {
     for (asserted, cert, line) in TEXTS {
-        let want = format!(in rt.alloc(); "rejected line {line}\n")?;
-        let (code, sink) = said_of(rt.alloc(), asserted, cert.as_bytes())?;
-        assert_eq!(rt; (code, sink.written()), (9, want.as_bytes()), "{cert}");
+        assert!(rt;
+            is_bad_at(rt.alloc(), asserted, cert.as_bytes(), *line)?,
+            "{cert}"
+        );
     }
     for (asserted, lines, line) in PROOFS {
-        let cert = format!(in rt.alloc(); "ato-certificate 1\nverdict {lines}")?;
-        let want = format!(in rt.alloc(); "rejected line {line}\n")?;
-        let (code, sink) = said_of(rt.alloc(), asserted, cert.as_bytes())?;
-        assert_eq!(rt; (code, sink.written()), (9, want.as_bytes()), "{lines}");
+        assert!(rt; are_bad_at(rt.alloc(), asserted, lines, *line)?, "{lines}");
     }
     Ok(())
 }
@@ -206,44 +223,41 @@ const REFUTED: &str =
 
 const BUILT: &str = "ato-certificate 1\nverdict built\nsteps 20000\npick 2\ncheck 1\nholds\nend\n";
 
-/// What is printed of so many bytes of a certificate, and what is to be.
-fn said_of_cut(
+/// Whether so many bytes of a certificate are rejected at the line where they end.
+fn is_cut_rejected(
     alloc: Global,
     asserted: &str,
     cert: &str,
     cut: usize,
-) -> Result<(u8, MemSink, String), NoMemory> {
+) -> Result<bool, NoMemory> {
     let front = match cert.as_bytes().get(..cut) {
         Some(front) => front,
         None => cert.as_bytes(),
     };
     let ends = front.iter().filter(|byte| **byte == b'\n').count();
-    let line = ends.min(1000) + 1;
-    let (code, sink) = said_of(alloc, asserted, front)?;
-    Ok((code, sink, format!(in alloc; "rejected line {line}\n")?))
+    is_bad_at(alloc, asserted, front, ends.min(1000) as u32 + 1)
 }
 
-#[test]
-fn each_cut_of_a_refuted_certificate_is_rejected(rt: HostRuntime) -> Result<(), Fail> {
-    let (code, sink) = said_of(rt.alloc(), "4 to 5", REFUTED.as_bytes())?;
-    assert_eq!(rt;
-        (code, sink.written()),
-        (0, b"accepted refuted\n".as_slice())
-    );
-    for cut in 0..REFUTED.len() {
-        let (code, sink, want) = said_of_cut(rt.alloc(), "4 to 5", REFUTED, cut)?;
-        assert_eq!(rt; (code, sink.written()), (9, want.as_bytes()), "{cut}");
-    }
-    Ok(())
+/// Whether a certificate is accepted with this verdict.
+fn is_whole(alloc: Global, asserted: &str, cert: &str, verdict: &str) -> Result<bool, NoMemory> {
+    let (code, sink) = said_of(alloc, asserted, cert.as_bytes())?;
+    let want = format!(in alloc; "accepted {verdict}\n")?;
+    Ok(code == 0 && sink.written() == want.as_bytes())
 }
 
+/// What is asserted, a certificate, and its verdict.
+const WHOLE: &[(&str, &str, &str)] = &[("4 to 5", REFUTED, "refuted"), ("2 to 4", BUILT, "built")];
+
 #[test]
-fn each_cut_of_a_built_certificate_is_rejected(rt: HostRuntime) -> Result<(), Fail> {
-    let (code, sink) = said_of(rt.alloc(), "2 to 4", BUILT.as_bytes())?;
-    assert_eq!(rt; (code, sink.written()), (0, b"accepted built\n".as_slice()));
-    for cut in 0..BUILT.len() {
-        let (code, sink, want) = said_of_cut(rt.alloc(), "2 to 4", BUILT, cut)?;
-        assert_eq!(rt; (code, sink.written()), (9, want.as_bytes()), "{cut}");
+fn each_cut_of_a_certificate_is_rejected(rt: HostRuntime) -> Result<(), Fail> {
+    for (asserted, cert, verdict) in WHOLE {
+        assert!(rt; is_whole(rt.alloc(), asserted, cert, verdict)?, "{verdict}");
+        for cut in 0..cert.len() {
+            assert!(rt;
+                is_cut_rejected(rt.alloc(), asserted, cert, cut)?,
+                "{verdict} {cut}"
+            );
+        }
     }
     Ok(())
 }
@@ -264,23 +278,26 @@ const FIRST_FAULTS: &[(&str, &str, u32, u8, &str)] = &[
     (ROWS, "part\n", 2, 1, "fault F6 Syntax main.ato:1:1\n"),
 ];
 
-/// What a check gives without a certificate, where the read of this number fails.
-fn said_of_failing(
+/// Whether a check without a certificate, where the read of this number fails, ends so.
+fn ends_at(
     alloc: Global,
-    source: &str,
-    rows: &str,
+    files: (&str, &str),
     fail: u32,
-) -> Result<(u8, MemSink), NoMemory> {
+    code: u8,
+    want: &str,
+) -> Result<bool, NoMemory> {
     let fail = [fail];
-    check_over(alloc, source.as_bytes(), rows.as_bytes(), None, &fail)
+    let (found, sink) = check_over(alloc, files.0.as_bytes(), files.1.as_bytes(), None, &fail)?;
+    Ok(found == code && sink.written() == want.as_bytes())
 }
 
 #[test]
 fn the_first_file_with_a_fault_is_named(rt: HostRuntime) -> Result<(), Fail> {
     for (source, rows, fail, code, want) in FIRST_FAULTS {
-        let (status, sink) = said_of_failing(rt.alloc(), source, rows, *fail)?;
-        assert_eq!(rt; status, *code, "{want}");
-        assert_eq!(rt; sink.written(), want.as_bytes(), "{want}");
+        assert!(rt;
+            ends_at(rt.alloc(), (source, rows), *fail, *code, want)?,
+            "{want}"
+        );
     }
     Ok(())
 }
