@@ -105,52 +105,62 @@ fn divides<Q: Whole + Divides>(a: Pair, b: Pair, want: Result<Pair, RangeFault>)
     }
 }
 
+const WIDE: Result<Pair, RangeFault> = Err(RangeFault::Wide);
+
+/// An operation, two intervals, and the answer.
+type Row = (Operation, Pair, Pair, Result<Pair, RangeFault>);
+
+const FRACTIONS: &[Row] = &[
+    (Add, (-1, 3), (2, 5), Ok((1, 8))),
+    (Sub, (-1, 3), (2, 5), Ok((-6, 1))),
+    (Mul, (-1, 2), (-3, 4), Ok((-6, 8))),
+    (Mul, (-3, -2), (1, 4), Ok((-12, -2))),
+    (Min, (-1, 7), (2, 5), Ok((-1, 5))),
+    (Max, (-1, 7), (2, 5), Ok((2, 7))),
+    (Abs, (-5, 3), (0, 0), Ok((0, 5))),
+    (Abs, (-5, -3), (0, 0), Ok((3, 5))),
+    (Pow(2), (-2, 3), (0, 0), Ok((0, 9))),
+    (Pow(2), (-3, -2), (0, 0), Ok((4, 9))),
+    (Pow(3), (-2, 3), (0, 0), Ok((-8, 27))),
+    (Pow(16), (-1, 1 << 8), (0, 0), WIDE),
+];
+
+/// Two intervals and their quotient.
+const QUOTIENTS: &[(Pair, Pair, Result<Pair, RangeFault>)] = &[
+    ((1, 2), (-1, 1), Err(RangeFault::HoldsZero)),
+    ((1, 2), (0, 1), Err(RangeFault::HoldsZero)),
+    ((3, 6), (-3, -1), Ok((-6, -1))),
+    ((-4, 6), (1, 2), Ok((-4, 6))),
+];
+
 #[test]
 fn operations_on_fractions(rt: HostRuntime) {
-    let wide = Err(RangeFault::Wide);
-    for (operation, a, b, want) in [
-        (Add, (-1, 3), (2, 5), Ok((1, 8))),
-        (Sub, (-1, 3), (2, 5), Ok((-6, 1))),
-        (Mul, (-1, 2), (-3, 4), Ok((-6, 8))),
-        (Mul, (-3, -2), (1, 4), Ok((-12, -2))),
-        (Min, (-1, 7), (2, 5), Ok((-1, 5))),
-        (Max, (-1, 7), (2, 5), Ok((2, 7))),
-        (Abs, (-5, 3), (0, 0), Ok((0, 5))),
-        (Abs, (-5, -3), (0, 0), Ok((3, 5))),
-        (Pow(2), (-2, 3), (0, 0), Ok((0, 9))),
-        (Pow(2), (-3, -2), (0, 0), Ok((4, 9))),
-        (Pow(3), (-2, 3), (0, 0), Ok((-8, 27))),
-        (Pow(16), (-1, 1 << 8), (0, 0), wide),
-    ] {
-        assert!(rt; gives::<Frac>(operation, a, b, want));
+    for (number, (operation, a, b, want)) in FRACTIONS.iter().enumerate() {
+        assert!(rt; gives::<Frac>(*operation, *a, *b, *want), "case {number}");
     }
-    for (a, b, want) in [
-        ((1, 2), (-1, 1), Err(RangeFault::HoldsZero)),
-        ((1, 2), (0, 1), Err(RangeFault::HoldsZero)),
-        ((3, 6), (-3, -1), Ok((-6, -1))),
-        ((-4, 6), (1, 2), Ok((-4, 6))),
-    ] {
-        assert!(rt; divides::<Frac>(a, b, want));
+    for (number, (a, b, want)) in QUOTIENTS.iter().enumerate() {
+        assert!(rt; divides::<Frac>(*a, *b, *want), "case {number}");
     }
     assert!(rt; interval::<Frac>((3, 2)).is_none());
 }
 
+const COINS: &[Row] = &[
+    (Add, (1, 3), (2, 5), Ok((3, 8))),
+    (Add, (MOST, MOST), (1, 1), WIDE),
+    (Sub, (4, 6), (1, 3), Ok((1, 5))),
+    (Sub, (4, 6), (1, 5), WIDE),
+    (Mul, (0, 2), (3, 4), Ok((0, 8))),
+    (Min, (1, 7), (2, 5), Ok((1, 5))),
+    (Max, (1, 7), (2, 5), Ok((2, 7))),
+    (Abs, (0, 3), (0, 0), Ok((0, 3))),
+    (Pow(4), (2, 5), (0, 0), Ok((16, 625))),
+    (Pow(2), (0, 1 << 32), (0, 0), WIDE),
+];
+
 #[test]
 fn operations_on_coins(rt: HostRuntime) {
-    let wide = Err(RangeFault::Wide);
-    for (operation, a, b, want) in [
-        (Add, (1, 3), (2, 5), Ok((3, 8))),
-        (Add, (MOST, MOST), (1, 1), wide),
-        (Sub, (4, 6), (1, 3), Ok((1, 5))),
-        (Sub, (4, 6), (1, 5), wide),
-        (Mul, (0, 2), (3, 4), Ok((0, 8))),
-        (Min, (1, 7), (2, 5), Ok((1, 5))),
-        (Max, (1, 7), (2, 5), Ok((2, 7))),
-        (Abs, (0, 3), (0, 0), Ok((0, 3))),
-        (Pow(4), (2, 5), (0, 0), Ok((16, 625))),
-        (Pow(2), (0, 1 << 32), (0, 0), wide),
-    ] {
-        assert!(rt; gives::<Coin>(operation, a, b, want));
+    for (number, (operation, a, b, want)) in COINS.iter().enumerate() {
+        assert!(rt; gives::<Coin>(*operation, *a, *b, *want), "case {number}");
     }
 }
 
@@ -195,28 +205,26 @@ fn makes<Q: Whole>(
     Ok(has_parts(&all, union) && has_parts(&both, meet))
 }
 
+/// Two sets, their union and their common parts: touching, apart, inside, many, empty.
+const SETS: &[(&[Pair], &[Pair], &[Pair], &[Pair])] = &[
+    (&[(1, 2)], &[(2, 3)], &[(1, 3)], &[(2, 2)]),
+    (&[(1, 2)], &[(3, 4)], &[(1, 2), (3, 4)], &[]),
+    (&[(1, 9)], &[(3, 4), (6, 6)], &[(1, 9)], &[(3, 4), (6, 6)]),
+    (
+        &[(1, 2), (4, 5), (7, 8)],
+        &[(2, 4), (8, 9)],
+        &[(1, 5), (7, 9)],
+        &[(2, 2), (4, 4), (8, 8)],
+    ),
+    (&[], &[(0, 0)], &[(0, 0)], &[]),
+];
+
 #[test]
 fn sets_join_and_meet(rt: HostRuntime) -> Result<(), Fail> {
-    for (left, right, union, meet) in [
-        // touching, apart, inside, many, empty
-        (
-            [(1, 2)].as_slice(),
-            [(2, 3)].as_slice(),
-            [(1, 3)].as_slice(),
-            [(2, 2)].as_slice(),
-        ),
-        (&[(1, 2)], &[(3, 4)], &[(1, 2), (3, 4)], &[]),
-        (&[(1, 9)], &[(3, 4), (6, 6)], &[(1, 9)], &[(3, 4), (6, 6)]),
-        (
-            &[(1, 2), (4, 5), (7, 8)],
-            &[(2, 4), (8, 9)],
-            &[(1, 5), (7, 9)],
-            &[(2, 2), (4, 4), (8, 8)],
-        ),
-        (&[], &[(0, 0)], &[(0, 0)], &[]),
-    ] {
-        assert!(rt; makes::<Frac>(rt.alloc(), left, right, union, meet)?);
-        assert!(rt; makes::<Coin>(rt.alloc(), right, left, union, meet)?);
+    for (number, (left, right, union, meet)) in SETS.iter().enumerate() {
+        let fractions = makes::<Frac>(rt.alloc(), left, right, union, meet)?;
+        let coins = makes::<Coin>(rt.alloc(), right, left, union, meet)?;
+        assert!(rt; fractions && coins, "case {number}");
     }
     Ok(())
 }
@@ -228,26 +236,38 @@ fn is_inside<Q: Whole>(alloc: Global, left: &[Pair], right: &[Pair]) -> Result<b
     Ok(left.subset(&right))
 }
 
+/// Two sets, and whether the one is a subset of the other.
+const SUBSETS: &[(&[Pair], &[Pair], bool)] = &[
+    (&[(1, 4)], &[(1, 2), (3, 4)], false),
+    (&[(1, 2), (3, 4)], &[(1, 4)], true),
+    (&[(0, 0), (2, 2), (5, 6)], &[(0, 1), (2, 3), (4, 6)], true),
+    (&[(2, 4)], &[(3, 4)], false),
+    (&[], &[(1, 1)], true),
+];
+
+/// Values, and whether the set from 1 to 2 and from 4 to 5 holds them.
+const VALUES: &[(u64, bool)] = &[(0, false), (1, true), (3, false), (5, true), (6, false)];
+
+/// Whether the hull of a set has these ends.
+fn has_hull<Q: Whole>(set: &IntervalSet<Q>, ends: Pair) -> bool {
+    match set.hull() {
+        Some(hull) => has_ends(&hull, ends),
+        None => false,
+    }
+}
+
 #[test]
 fn sets_hold_all_values_in_their_parts(rt: HostRuntime) -> Result<(), Fail> {
-    for (left, right, want) in [
-        ([(1, 4)].as_slice(), [(1, 2), (3, 4)].as_slice(), false),
-        (&[(1, 2), (3, 4)], &[(1, 4)], true),
-        (&[(0, 0), (2, 2), (5, 6)], &[(0, 1), (2, 3), (4, 6)], true),
-        (&[(2, 4)], &[(3, 4)], false),
-        (&[], &[(1, 1)], true),
-    ] {
-        assert_eq!(rt; is_inside::<Frac>(rt.alloc(), left, right)?, want);
-        assert_eq!(rt; is_inside::<Coin>(rt.alloc(), left, right)?, want);
+    for (number, (left, right, want)) in SUBSETS.iter().enumerate() {
+        let fractions = is_inside::<Frac>(rt.alloc(), left, right)?;
+        let coins = is_inside::<Coin>(rt.alloc(), left, right)?;
+        assert!(rt; fractions == *want && coins == *want, "case {number}");
     }
     let two: IntervalSet<Coin> = set(rt.alloc(), &[(1, 2), (4, 5)])?;
-    for (value, want) in [(0, false), (1, true), (3, false), (5, true), (6, false)] {
-        assert_eq!(rt; two.holds(&Coin(value)), want);
+    for (value, want) in VALUES {
+        assert!(rt; two.holds(&Coin(*value)) == *want, "{value}");
     }
-    match two.hull() {
-        Some(hull) => assert!(rt; has_ends(&hull, (1, 5))),
-        None => assert!(rt; false),
-    }
+    assert!(rt; has_hull(&two, (1, 5)));
     assert!(rt; IntervalSet::<Frac>::empty(rt.alloc()).hull().is_none());
     Ok(())
 }
