@@ -12,22 +12,24 @@ fn clear_first(list: &mut List<u8>)
 }
 
 #[test]
-fn lists_and_texts_grow(rt: HostRuntime) -> Result<(), Fail> {
-    let alloc = rt.alloc();
-    let mut list = List::from_vec(vec![in alloc; 7, 8]?);
+fn lists_grow(rt: HostRuntime) -> Result<(), Fail> {
+    let mut list = List::from_vec(vec![in rt.alloc(); 7, 8]?);
     list.push(9)?;
     assert!(rt; list.len() == 3 && !list.is_empty());
     clear_first(&mut list);
-    assert_eq!(rt; list.as_slice(), [0, 8, 9].as_slice());
-    assert_eq!(rt; list.into_vec().as_slice(), [0, 8, 9].as_slice());
+    assert!(rt; list.as_slice() == [0, 8, 9].as_slice());
+    assert!(rt; list.into_vec().as_slice() == [0, 8, 9].as_slice());
+    Ok(())
+}
+
+#[test]
+fn texts_grow(rt: HostRuntime) -> Result<(), Fail> {
+    let alloc = rt.alloc();
     let mut text = Text::copy(alloc, "pin ")?;
     text.push_str("1")?;
-    assert_eq!(rt; text.as_str(), "pin 1");
-    assert_eq!(rt; Text::new(alloc).as_str(), "");
-    assert_eq!(rt;
-        Text::from_string(String::from_str(alloc, "a")?).as_str(),
-        "a"
-    );
+    let whole = Text::from_string(String::from_str(alloc, "a")?);
+    assert!(rt; text.as_str() == "pin 1" && whole.as_str() == "a");
+    assert!(rt; Text::new(alloc).as_str() == "");
     Ok(())
 }
 
