@@ -21,20 +21,40 @@ fn files(alloc: Global, entries: &[(&str, &str)]) -> Result<List<(Text, List<u8>
     Ok(files)
 }
 
+/// Whether a get of a name with a limit gives this.
+fn gets<S: Shelf>(
+    shelf: &mut S,
+    asked: (&str, usize),
+    into: &mut Vec<u8>,
+    want: Result<Got, ShelfError>,
+) -> bool {
+    shelf.get(asked.0, asked.1, into) == want
+}
+
+/// Whether a put gives this.
+fn puts<T: Tray>(tray: &mut T, name: &str, bytes: &[u8], want: Result<(), TrayError>) -> bool {
+    tray.put(name, bytes) == want
+}
+
+/// Whether a write gives this.
+fn writes<O: Sink>(sink: &mut O, piece: &[u8], want: Result<usize, SinkFailed>) -> bool {
+    sink.write(piece) == want
+}
+
 #[test]
 fn a_shelf_fails_between_two_good_reads(rt: HostRuntime) -> Result<(), Fail> {
     let alloc = rt.alloc();
     let held = files(alloc, &[("a", "one"), ("b", ""), ("a", "other")])?;
     let mut shelf = MemShelf::new(held, List::from_vec(vec![in alloc; 2]?));
     let mut into = Vec::new(alloc);
-    assert_eq!(rt; shelf.get("a", 3, &mut into), Ok(Got::Whole));
-    assert_eq!(rt; into.as_slice(), b"one".as_slice());
-    assert_eq!(rt; shelf.get("a", 3, &mut into), Err(ShelfError::Failed));
-    assert_eq!(rt; into.len(), 0);
-    assert_eq!(rt; shelf.get("b", 0, &mut into), Ok(Got::Whole));
-    assert_eq!(rt; shelf.get("a", 2, &mut into), Ok(Got::TooLong));
-    assert_eq!(rt; shelf.get("c", 9, &mut into), Ok(Got::Missing));
-    assert_eq!(rt; (shelf.faults(), shelf.misses()), (1, 1));
+    assert!(rt; gets(&mut shelf, ("a", 3), &mut into, Ok(Got::Whole)));
+    assert!(rt; into.as_slice() == b"one".as_slice());
+    assert!(rt; gets(&mut shelf, ("a", 3), &mut into, Err(ShelfError::Failed)));
+    assert!(rt; into.len() == 0);
+    assert!(rt; gets(&mut shelf, ("b", 0), &mut into, Ok(Got::Whole)));
+    assert!(rt; gets(&mut shelf, ("a", 2), &mut into, Ok(Got::TooLong)));
+    assert!(rt; gets(&mut shelf, ("c", 9), &mut into, Ok(Got::Missing)));
+    assert!(rt; shelf.faults() == 1 && shelf.misses() == 1);
     Ok(())
 }
 
@@ -43,10 +63,10 @@ fn a_sure_shelf_reads(rt: HostRuntime) -> Result<(), Fail> {
     let alloc = rt.alloc();
     let mut shelf = SureShelf::new(files(alloc, &[("a", "one"), ("a", "other")])?);
     let mut into = Vec::new(alloc);
-    assert_eq!(rt; shelf.get("b", 9, &mut into), Ok(Got::Missing));
-    assert_eq!(rt; shelf.get("a", 3, &mut into), Ok(Got::Whole));
-    assert_eq!(rt; into.as_slice(), b"one".as_slice());
-    assert_eq!(rt; shelf.misses(), 1);
+    assert!(rt; gets(&mut shelf, ("b", 9), &mut into, Ok(Got::Missing)));
+    assert!(rt; gets(&mut shelf, ("a", 3), &mut into, Ok(Got::Whole)));
+    assert!(rt; into.as_slice() == b"one".as_slice());
+    assert!(rt; shelf.misses() == 1);
     Ok(())
 }
 
@@ -55,23 +75,23 @@ fn a_tray_fails_after_some_bytes(rt: HostRuntime) -> Result<(), Fail> {
     let alloc = rt.alloc();
     let fail = List::from_vec(vec![in alloc; (2, 3), (3, 99), (2, 0)]?);
     let mut tray = MemTray::new(alloc, fail);
-    assert_eq!(rt; tray.put("a", b"first"), Ok(()));
-    assert_eq!(rt; tray.put("b", b"second"), Err(TrayError::Failed));
-    assert_eq!(rt; tray.put("c", b"third"), Err(TrayError::Failed));
-    assert_eq!(rt; tray.put("a", b"again"), Ok(()));
+    assert!(rt; puts(&mut tray, "a", b"first", Ok(())));
+    assert!(rt; puts(&mut tray, "b", b"second", Err(TrayError::Failed)));
+    assert!(rt; puts(&mut tray, "c", b"third", Err(TrayError::Failed)));
+    assert!(rt; puts(&mut tray, "a", b"again", Ok(())));
     assert!(rt; tray.get("a") == Some(b"again".as_slice()));
     assert!(rt; tray.get("b") == Some(b"sec".as_slice()));
     assert!(rt; tray.get("c") == Some(b"third".as_slice()));
     assert!(rt; tray.get("d").is_none());
-    assert_eq!(rt; tray.faults(), 2);
+    assert!(rt; tray.faults() == 2);
     Ok(())
 }
 
 #[test]
 fn a_sure_tray_holds_what_was_put_last(rt: HostRuntime) {
     let mut tray = SureTray::new(rt.alloc());
-    assert_eq!(rt; tray.put("a", b"first"), Ok(()));
-    assert_eq!(rt; tray.put("a", b"last"), Ok(()));
+    assert!(rt; puts(&mut tray, "a", b"first", Ok(())));
+    assert!(rt; puts(&mut tray, "a", b"last", Ok(())));
     assert!(rt; tray.get("a") == Some(b"last".as_slice()));
 }
 
@@ -79,13 +99,13 @@ fn a_sure_tray_holds_what_was_put_last(rt: HostRuntime) {
 fn a_sink_fails_by_number_and_by_room(rt: HostRuntime) -> Result<(), Fail> {
     let alloc = rt.alloc();
     let mut sink = MemSink::new(alloc, 6, List::from_vec(vec![in alloc; 2]?))?;
-    assert_eq!(rt; sink.write(b"one"), Ok(3));
-    assert_eq!(rt; sink.write(b"two"), Err(SinkFailed));
-    assert_eq!(rt; sink.write(b"four"), Err(SinkFailed));
-    assert_eq!(rt; sink.write(b"six"), Ok(3));
-    assert_eq!(rt; sink.write(b""), Ok(0));
-    assert_eq!(rt; sink.written(), b"onesix".as_slice());
-    assert_eq!(rt; sink.faults(), 2);
+    assert!(rt; writes(&mut sink, b"one", Ok(3)));
+    assert!(rt; writes(&mut sink, b"two", Err(SinkFailed)));
+    assert!(rt; writes(&mut sink, b"four", Err(SinkFailed)));
+    assert!(rt; writes(&mut sink, b"six", Ok(3)));
+    assert!(rt; writes(&mut sink, b"", Ok(0)));
+    assert!(rt; sink.written() == b"onesix".as_slice());
+    assert!(rt; sink.faults() == 2);
     Ok(())
 }
 
@@ -95,27 +115,39 @@ fn a_real_folder_gives_back_what_was_put(rt: HostRuntime) -> Result<(), Fail> {
     let folder = env::temp_dir(&rt)?;
     let name = "ato_outside_real_folder.txt";
     let mut tray = DirTray::new(alloc, &rt, folder.as_str());
-    assert_eq!(rt; tray.put(name, b"bytes"), Ok(()));
-    assert_eq!(rt;
-        tray.put("ato_outside_no_folder/file", b""),
-        Err(TrayError::Failed)
+    assert!(rt; puts(&mut tray, name, b"bytes", Ok(())));
+    assert!(rt;
+        puts(
+            &mut tray,
+            "ato_outside_no_folder/file",
+            b"",
+            Err(TrayError::Failed)
+        )
     );
-    assert_eq!(rt; tray.faults(), 1);
+    assert!(rt; tray.faults() == 1);
     let mut shelf = DirShelf::new(&rt, folder.as_str());
     let mut into = Vec::new(alloc);
-    assert_eq!(rt; shelf.get(name, 5, &mut into), Ok(Got::Whole));
-    assert_eq!(rt; into.as_slice(), b"bytes".as_slice());
-    assert_eq!(rt; shelf.get(name, 4, &mut into), Ok(Got::TooLong));
-    assert_eq!(rt;
-        shelf.get("ato_outside_no_file", 4, &mut into),
-        Ok(Got::Missing)
+    assert!(rt; gets(&mut shelf, (name, 5), &mut into, Ok(Got::Whole)));
+    assert!(rt; into.as_slice() == b"bytes".as_slice());
+    assert!(rt; gets(&mut shelf, (name, 4), &mut into, Ok(Got::TooLong)));
+    assert!(rt;
+        gets(
+            &mut shelf,
+            ("ato_outside_no_file", 4),
+            &mut into,
+            Ok(Got::Missing)
+        )
     );
-    assert_eq!(rt; shelf.get(".", 4, &mut into), Err(ShelfError::Failed));
-    assert_eq!(rt;
-        shelf.get("ato_outside_real_folder.txt/file", 4, &mut into),
-        Err(ShelfError::Failed)
+    assert!(rt; gets(&mut shelf, (".", 4), &mut into, Err(ShelfError::Failed)));
+    assert!(rt;
+        gets(
+            &mut shelf,
+            ("ato_outside_real_folder.txt/file", 4),
+            &mut into,
+            Err(ShelfError::Failed)
+        )
     );
-    assert_eq!(rt; (shelf.faults(), shelf.misses()), (2, 1));
+    assert!(rt; shelf.faults() == 2 && shelf.misses() == 1);
     fs::remove_file(&rt, folder.join(alloc, name)?)?;
     Ok(())
 }
@@ -132,6 +164,9 @@ fn long_bytes(alloc: Global, length: usize) -> Result<Vec<u8>, NoMemory> {
 }
 
 /// Each file but the first is put in place of a longer one, and some are longer than one read.
+/// Lengths of files, each shorter than the one before, around the length of one read.
+const LENGTHS: &[usize] = &[20_481, 8_193, 8_192, 4_097, 4_096, 4_095, 5, 1, 0];
+
 #[test]
 fn a_real_folder_gives_back_every_byte(rt: HostRuntime) -> Result<(), Fail> {
     let alloc = rt.alloc();
@@ -141,18 +176,18 @@ fn a_real_folder_gives_back_every_byte(rt: HostRuntime) -> Result<(), Fail> {
     let mut tray = DirTray::new(alloc, &rt, folder.as_str());
     let mut shelf = DirShelf::new(&rt, folder.as_str());
     let mut into = Vec::new(alloc);
-    for length in [20_481usize, 8_193, 8_192, 4_097, 4_096, 4_095, 5, 1, 0] {
-        let bytes = long_bytes(alloc, length)?;
-        assert_eq!(rt; tray.put(name, bytes.as_slice()), Ok(()));
+    for length in LENGTHS {
+        let bytes = long_bytes(alloc, *length)?;
+        assert!(rt; puts(&mut tray, name, bytes.as_slice(), Ok(())));
         let held = fs::read(&rt, path.as_str())?;
         assert!(rt; held.as_slice() == bytes.as_slice());
-        assert_eq!(rt; shelf.get(name, length, &mut into), Ok(Got::Whole));
+        assert!(rt; gets(&mut shelf, (name, *length), &mut into, Ok(Got::Whole)));
         assert!(rt; into.as_slice() == bytes.as_slice());
-        if length > 0 {
-            assert_eq!(rt; shelf.get(name, length - 1, &mut into), Ok(Got::TooLong));
-        }
+        assert!(rt;
+            *length == 0 || gets(&mut shelf, (name, *length - 1), &mut into, Ok(Got::TooLong))
+        );
     }
-    assert_eq!(rt; (tray.faults(), shelf.faults(), shelf.misses()), (0, 0, 0));
+    assert!(rt; tray.faults() == 0 && shelf.faults() == 0 && shelf.misses() == 0);
     fs::remove_file(&rt, path.as_str())?;
     Ok(())
 }
@@ -160,8 +195,8 @@ fn a_real_folder_gives_back_every_byte(rt: HostRuntime) -> Result<(), Fail> {
 #[test]
 fn standard_output_takes_a_line(rt: HostRuntime) {
     let mut sink = OutSink::new(&rt);
-    assert_eq!(rt; sink.write(b"line\n"), Ok(5));
-    assert_eq!(rt; sink.faults(), 0);
+    assert!(rt; writes(&mut sink, b"line\n", Ok(5)));
+    assert!(rt; sink.faults() == 0);
 }
 
 /// A file that reads or writes a byte in each turn but the second, which is interrupted, and in
@@ -208,17 +243,23 @@ impl Write for Halting {
 #[test]
 fn a_read_may_be_interrupted_and_may_fail(rt: HostRuntime) {
     let mut into = Vec::new(rt.alloc());
-    for (fails, answer) in [(0, Ok(Got::Whole)), (4, Err(ShelfError::Failed))] {
+    for (fails, answer) in [(0, Ok(Got::Whole)), (4, Err(ShelfError::Failed))].iter() {
         into.clear();
-        let mut file = Halting { turn: 0, fails };
-        assert_eq!(rt; read_all(&mut file, 3, &mut into), answer);
+        let mut file = Halting {
+            turn: 0,
+            fails: *fails,
+        };
+        assert!(rt; read_all(&mut file, 3, &mut into) == *answer);
     }
 }
 
 #[test]
 fn a_write_may_be_interrupted_and_may_fail(rt: HostRuntime) {
-    for (fails, bytes, answer) in [(0, "xxx", true), (4, "xxx", false), (0, "xxxx", false)] {
-        let mut file = Halting { turn: 0, fails };
-        assert_eq!(rt; write_all(&mut file, bytes.as_bytes()), answer);
+    for (fails, bytes, answer) in [(0, "xxx", true), (4, "xxx", false), (0, "xxxx", false)].iter() {
+        let mut file = Halting {
+            turn: 0,
+            fails: *fails,
+        };
+        assert!(rt; write_all(&mut file, bytes.as_bytes()) == *answer);
     }
 }
