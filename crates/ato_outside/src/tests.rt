@@ -70,6 +70,11 @@ fn a_sure_shelf_reads(rt: HostRuntime) -> Result<(), Fail> {
     Ok(())
 }
 
+/// Whether a tray holds this under a name.
+fn holds(tray: &MemTray, name: &str, want: Option<&[u8]>) -> bool {
+    tray.get(name) == want
+}
+
 #[test]
 fn a_tray_fails_after_some_bytes(rt: HostRuntime) -> Result<(), Fail> {
     let alloc = rt.alloc();
@@ -79,10 +84,10 @@ fn a_tray_fails_after_some_bytes(rt: HostRuntime) -> Result<(), Fail> {
     assert!(rt; puts(&mut tray, "b", b"second", Err(TrayError::Failed)));
     assert!(rt; puts(&mut tray, "c", b"third", Err(TrayError::Failed)));
     assert!(rt; puts(&mut tray, "a", b"again", Ok(())));
-    assert!(rt; tray.get("a") == Some(b"again".as_slice()));
-    assert!(rt; tray.get("b") == Some(b"sec".as_slice()));
-    assert!(rt; tray.get("c") == Some(b"third".as_slice()));
-    assert!(rt; tray.get("d").is_none());
+    assert!(rt; holds(&tray, "a", Some(b"again".as_slice())));
+    assert!(rt; holds(&tray, "b", Some(b"sec".as_slice())));
+    assert!(rt; holds(&tray, "c", Some(b"third".as_slice())));
+    assert!(rt; holds(&tray, "d", None));
     assert!(rt; tray.faults() == 2);
     Ok(())
 }
