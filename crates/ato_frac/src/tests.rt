@@ -1,4 +1,7 @@
-use crate::{Coin, DecimalFault, Divides, Exact, Frac, NumFault};
+use crate::{
+    Coin, DecimalFault, Divides, Exact, Frac, NumFault, absolute, at_most, greater, lesser, power,
+    signed,
+};
 use std::alloc::{AllocError, Global};
 use std::cmp::Ordering;
 use std::test::Fail;
@@ -355,4 +358,52 @@ fn quotients_through_the_bound(rt: HostRuntime) {
     assert!(rt; is_answer(by_zero, Err(NumFault::ByZero)));
     let wide = quotient(&frac(MOST, 1), &frac(1, 2));
     assert!(rt; is_answer(wide, Err(NumFault::Wide)));
+}
+
+/// Fractions with their opposite, their absolute value and their third power.
+const TURNED: &[(
+    (i128, i128),
+    (i128, i128),
+    (i128, i128),
+    Option<(i128, i128)>,
+)] = &[
+    ((-2, 3), (2, 3), (2, 3), Some((-8, 27))),
+    ((1, 10), (-1, 10), (1, 10), Some((1, 1000))),
+    ((0, 1), (0, 1), (0, 1), Some((0, 1))),
+    ((MOST, 1), (-MOST, 1), (MOST, 1), None),
+];
+
+/// Whether a fraction has these.
+fn is_turned(
+    x: &Frac,
+    opposite: (i128, i128),
+    size: (i128, i128),
+    cube: Option<(i128, i128)>,
+) -> bool {
+    parts(Some(x.opposite())) == Some(opposite)
+        && parts(absolute(x)) == Some(size)
+        && parts(power(x, 3)) == cube
+}
+
+#[test]
+fn opposites_absolute_values_and_powers(rt: HostRuntime) {
+    for (x, opposite, size, cube) in TURNED {
+        assert!(rt;
+            is_turned(&frac(x.0, x.1), *opposite, *size, *cube),
+            "{}",
+            x.0
+        );
+    }
+    assert!(rt; absolute(&Coin(7)) == Some(Coin(7)) && power(&Coin(1 << 32), 2).is_none());
+    assert!(rt; parts(Some(Frac::power_of_ten(-2))) == Some((1, 100)));
+    assert!(rt; parts(Some(Frac::power_of_ten(3))) == Some((1000, 1)));
+    assert!(rt; signed(true, 5) == -5 && signed(false, 5) == 5);
+}
+
+#[test]
+fn the_lesser_and_the_greater(rt: HostRuntime) {
+    let (third, half) = (frac(1, 3), frac(1, 2));
+    assert!(rt; at_most(&third, &half) && !at_most(&half, &third) && at_most(&half, &half));
+    assert!(rt; lesser(half, third) == third && greater(third, half) == half);
+    assert!(rt; lesser(Coin(2), Coin(3)) == Coin(2) && greater(Coin(2), Coin(3)) == Coin(3));
 }
