@@ -25,7 +25,7 @@ use Rattle.ato_cert.proofs.Soundness.{sound_of}
 use Rattle.ato_cert.proofs.WritableLaws.{valid_writable}
 use Rattle.ato_check.specs.FirstBad.{IsFirstBad}
 use Rattle.ato_first.specs.FirstParts.{part_of}
-use Rattle.ato_lexer.specs.declared.first_form.Block.{Block}
+use Rattle.ato_first.specs.declared.first_form.Block.{Block}
 use Rattle.ato_outside.specs.Files.{Files}
 use Rattle.ato_words.specs.Words.{IsCheck}
 use Rattle.ato_words.specs.declared.words.Check.{Check}

@@ -25,7 +25,7 @@ use Rattle.ato_cert.specs.declared.cert.Proof.TheVariants as proofs
 use Rattle.ato_cert.specs.declared.cert.Verdict.{Verdict}
 use Rattle.ato_cert.specs.declared.cert.Verdict.TheVariants as verdicts
 use Rattle.ato_base.specs.declared.memory.NoMemory.{NoMemory}
-use Rattle.ato_lexer.specs.declared.first_form.Block.{Block}
+use Rattle.ato_first.specs.declared.first_form.Block.{Block}
 use Rattle.ato_build.specs.Boards.{board_of, IsProblemOf}
 use Rattle.ato_build.specs.Decisions.{PutsBuilt, PutsRefuted, IsDecision}
 use Rattle.ato_build.specs.declared.decisions.Decision.{Decision}

@@ -4,8 +4,8 @@ use Rattle.std.proofs.lemmas.Slice.Eq.{bytes_eq-Decides}
 use Rattle.std.proofs.Common.{◌≡◌, ℕ, Bool, true, false, not, List, sym, ◌∙◌, subst, inr, refl}
 use Rattle.std.specs.Prelude.{Option, Some, None, MatchOption}
 use Rattle.ato_base.specs.declared.faults.Fault.{Fault}
-use Rattle.ato_lexer.specs.FirstForm.{IsFile}
-use Rattle.ato_lexer.specs.declared.first_form.Block.{Block}
+use Rattle.ato_first.specs.FirstForm.{IsFile}
+use Rattle.ato_first.specs.declared.first_form.Block.{Block}
 use Rattle.ato_first.specs.FirstParts.{HasRanges}
 use Rattle.ato_first.specs.FirstPoints.{AreKnown}
 use Rattle.ato_build.specs.Found.{Whole}

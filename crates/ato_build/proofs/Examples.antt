@@ -4,14 +4,14 @@ use Rattle.std.specs.Prelude.{ℕ, List, codes, Option, Some, None}
 use Rattle.std.specs.Fmt.{digits}
 use Rattle.ato_base.specs.declared.faults.FaultKind.TheVariants as kinds
 use Rattle.ato_base.specs.declared.places.Place.TheVariants as places
-use Rattle.ato_lexer.specs.declared.first_form.Block.{Block}
+use Rattle.ato_first.specs.declared.first_form.Block.{Block}
 use Rattle.ato_base.specs.Classes.{no_class, a_class, no_point, related}
 use Rattle.ato_base.specs.Joined.{same, along, against}
 use Rattle.ato_base.specs.declared.nets.NetList.{NetList}
-use Rattle.ato_lexer.specs.declared.first_form.End.TheVariants.{Name, Declared}
-use Rattle.ato_lexer.specs.declared.first_form.Line.TheVariants.{Pass, Declaration, Join, Kind, Attribute, Assertion}
-use Rattle.ato_lexer.specs.declared.first_form.Point.TheVariants.{Signal, Pin}
-use Rattle.ato_lexer.specs.FirstTokens.{syntax_fault}
+use Rattle.ato_first.specs.declared.first_form.End.TheVariants.{Name, Declared}
+use Rattle.ato_first.specs.declared.first_form.Line.TheVariants.{Pass, Declaration, Join, Kind, Attribute, Assertion}
+use Rattle.ato_first.specs.declared.first_form.Point.TheVariants.{Signal, Pin}
+use Rattle.ato_first.specs.FirstTokens.{syntax_fault}
 use Rattle.ato_build.specs.Entry.{word_fault, entry_file}
 use Rattle.ato_first.specs.FirstNets.{net_pin, by_signal, IsNetList}
 use Rattle.ato_first.specs.FirstParts.{part_of, candidates}

@@ -4,11 +4,11 @@ use Rattle.std.specs.List.{list_any}
 use Rattle.std.specs.Prelude.{Some}
 use Rattle.ato_base.specs.declared.faults.Fault.{Fault}
 use Rattle.ato_base.specs.declared.faults.FaultKind.TheVariants as kinds
-use Rattle.ato_lexer.specs.FirstForm.{IsFile, lined, head_text, lines_text}
-use Rattle.ato_lexer.specs.FirstTokens.{syntax_fault}
-use Rattle.ato_lexer.proofs.FirstFormLaws.{one_file, bad_no_file, one_bad}
-use Rattle.ato_lexer.specs.declared.first_form.Block.{Block}
-use Rattle.ato_lexer.specs.declared.first_form.Line.{Line}
+use Rattle.ato_first.specs.FirstForm.{IsFile, lined, head_text, lines_text}
+use Rattle.ato_first.specs.FirstTokens.{syntax_fault}
+use Rattle.ato_first.proofs.FirstFormLaws.{one_file, bad_no_file, one_bad}
+use Rattle.ato_first.specs.declared.first_form.Block.{Block}
+use Rattle.ato_first.specs.declared.first_form.Line.{Line}
 use Rattle.ato_catalog.specs.Contents.{Contents}
 use Rattle.ato_catalog.proofs.CatalogueLaws.{one_contents, one_fault, never_both}
 use Rattle.ato_first.proofs.FirstNumberLemmas.{or_false, or_right}

@@ -8,7 +8,7 @@ use Rattle.ato_outside.specs.Files.{Files}
 use Rattle.ato_base.specs.declared.faults.Fault.{Fault}
 use Rattle.ato_base.specs.declared.faults.FaultKind.TheVariants as kinds
 use Rattle.ato_base.specs.declared.memory.NoMemory.{NoMemory}
-use Rattle.ato_lexer.specs.declared.first_form.Block.{Block}
+use Rattle.ato_first.specs.declared.first_form.Block.{Block}
 use Rattle.ato_words.specs.Words.{IsJob}
 use Rattle.ato_words.specs.declared.words.Task.{Task}
 use Rattle.ato_words.specs.declared.words.Task.TheVariants as tasks

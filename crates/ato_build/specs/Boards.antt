@@ -2,7 +2,7 @@
 -- finds and what a run promises see the board by the words of this file alone.
 use Rattle.std.specs.Prelude.{ℕ, List}
 use Rattle.ato_base.specs.declared.nets.NetList.{NetList}
-use Rattle.ato_lexer.specs.declared.first_form.Block.{Block}
+use Rattle.ato_first.specs.declared.first_form.Block.{Block}
 use Rattle.ato_catalog.specs.Contents.{Contents}
 use Rattle.ato_cert.specs.declared.cert.Cert.{Cert}
 use Rattle.ato_cert.specs.declared.problem.Problem.{Problem}

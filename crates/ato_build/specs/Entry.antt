@@ -7,9 +7,9 @@ use Rattle.ato_base.specs.declared.faults.Refusal.{Refusal}
 use Rattle.ato_base.specs.declared.faults.Refusal.TheVariants as refusals
 use Rattle.ato_base.specs.declared.places.FileId.{FileId}
 use Rattle.ato_base.specs.declared.places.Place.TheVariants as places
-use Rattle.ato_lexer.specs.FirstForm.{IsFile, IsBad}
-use Rattle.ato_lexer.specs.FirstTokens.{syntax_fault}
-use Rattle.ato_lexer.specs.declared.first_form.Block.{Block}
+use Rattle.ato_first.specs.FirstForm.{IsFile, IsBad}
+use Rattle.ato_first.specs.FirstTokens.{syntax_fault}
+use Rattle.ato_first.specs.declared.first_form.Block.{Block}
 use Rattle.ato_first.specs.FirstPoints.{AreKnown, IsUnknownAt}
 use Rattle.ato_first.specs.FirstParts.{HasRanges, IsEmptyAt}
 use Rattle.ato_build.specs.Found.{Found, Missing, TooLong, Whole}

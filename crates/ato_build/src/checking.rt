@@ -2,7 +2,7 @@
 ghost use Rattle.std.specs.Prelude.{◌≡◌, ◌≤◌, ◌<◌, ◌^◌, Option, List, ℕ, true, Err, IfOk, length};
 ghost use Rattle.std.specs.List.{list_all};
 ghost use Rattle.ato_base.specs.declared.faults.Fault.{Fault};
-ghost use Rattle.ato_lexer.specs.FirstForm.{is_line};
+ghost use Rattle.ato_first.specs.FirstForm.{is_line};
 ghost use Rattle.ato_catalog.specs.Catalogue.{ShowsContents};
 ghost use Rattle.ato_catalog.specs.Contents.{Contents};
 ghost use Rattle.ato_catalog.specs.WellMade as catalogues;
@@ -37,8 +37,7 @@ use ato_base::{FaultKind, NoMemory};
 use ato_catalog::Catalog;
 use ato_cert::{CertRefusal, Problem, Proof, Verdict, read_cert};
 use ato_check::{Checked, check};
-use ato_first::part_of;
-use ato_lexer::Block;
+use ato_first::{Block, part_of};
 use ato_outside::Shelf;
 use std::alloc::Global;
 

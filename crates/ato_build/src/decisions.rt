@@ -2,7 +2,7 @@
 ghost use Rattle.std.specs.Prelude.{◌≡◌, ◌∷◌, ◌<◌, ◌^◌, [], true, IfOk, string_bytes};
 ghost use Rattle.std.specs.List.{list_all};
 ghost use Rattle.std.specs.Option.{option_copied};
-ghost use Rattle.ato_lexer.specs.FirstForm.{is_line};
+ghost use Rattle.ato_first.specs.FirstForm.{is_line};
 ghost use Rattle.ato_catalog.specs.Catalogue.{ShowsContents};
 ghost use Rattle.ato_catalog.specs.Contents.{Contents, numbered};
 ghost use Rattle.ato_catalog.specs.WellMade.{IsWellMade};
@@ -21,8 +21,7 @@ use crate::texts::summary_text;
 use ato_base::{List, NetList, NoMemory, Text};
 use ato_catalog::{Catalog, CatalogRow};
 use ato_cert::{Cert, Proof, cert_text, nodes};
-use ato_first::{list_of, part_of};
-use ato_lexer::Block;
+use ato_first::{Block, list_of, part_of};
 use ato_search::search;
 use ato_writers::net_text;
 use std::alloc::Global;

@@ -1,6 +1,6 @@
 //! The source of the entry file as a block, or its first fault.
 ghost use Rattle.std.specs.Prelude.{◌≡◌, ◌≤◌, ◌<◌, ◌^◌, IfOk, IfErr, MatchOption, length};
-ghost use Rattle.ato_lexer.specs.FirstForm.{block_text, IsFront};
+ghost use Rattle.ato_first.specs.FirstForm.{block_text, IsFront};
 ghost use Rattle.ato_first.specs.FirstPoints.{AreKnown};
 ghost use Rattle.ato_first.specs.FirstParts.{HasRanges};
 ghost use Rattle.ato_build.specs.Found.{Whole};
@@ -8,8 +8,7 @@ ghost use Rattle.ato_build.specs.Entry.{word_fault, line_fault, source_limit, Gi
 
 use crate::project::Project;
 use ato_base::{Fault, FaultKind, FileId, List, NameTable, NoMemory, Place, Refusal, Span};
-use ato_first::{empty_line, read_block, unknown_line};
-use ato_lexer::{Block, lex};
+use ato_first::{Block, empty_line, lex, read_block, unknown_line};
 use std::alloc::Global;
 
 /// The number of the entry file.

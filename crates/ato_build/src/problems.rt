@@ -1,7 +1,7 @@
 //! The problem of a part and a catalogue.
 ghost use Rattle.std.specs.Prelude.{◌≡◌, ◌+◌, ◌≤◌, ◌<◌, List, ℕ, Some, None, length, drop, IfOk};
 ghost use Rattle.ato_rational.specs.Rational.{◌≤ℚ◌};
-ghost use Rattle.ato_lexer.specs.FirstForm.{is_line};
+ghost use Rattle.ato_first.specs.FirstForm.{is_line};
 ghost use Rattle.ato_catalog.specs.Catalogue.{ShowsContents};
 ghost use Rattle.ato_catalog.specs.Contents.{Contents, cell_under};
 ghost use Rattle.ato_catalog.specs.WellMade as catalogues;

@@ -10,16 +10,16 @@ use Rattle.ato_base.specs.declared.tokens.TokenKind.{TokenKind}
 use Rattle.ato_base.specs.declared.tokens.TokenKind.TheVariants as kinds
 use Rattle.ato_base.specs.declared.keywords.Keyword.TheVariants as words
 use Rattle.ato_base.specs.declared.keywords.Mark.TheVariants as marks
-use Rattle.ato_lexer.specs.declared.first_form.Point.TheVariants as points
-use Rattle.ato_lexer.specs.declared.first_form.End.{End}
-use Rattle.ato_lexer.specs.declared.first_form.End.TheVariants.{Name, Declared}
-use Rattle.ato_lexer.specs.declared.first_form.Line.{Line}
-use Rattle.ato_lexer.specs.declared.first_form.Line.TheVariants.{Pass, Declaration, Join, Kind, Attribute}
-use Rattle.ato_lexer.specs.declared.first_form.Line.TheVariants as lines
-use Rattle.ato_lexer.specs.declared.first_form.Assertion.{Assertion}
-use Rattle.ato_lexer.specs.declared.first_form.Block.{Block}
-use Rattle.ato_lexer.specs.FirstForm.{is_ascii_name, lined, point_text, end_text, line_text, lines_text, head_text, block_text, IsFile}
-use Rattle.ato_lexer.specs.FirstTokens.{token, label_token, name_token, number_token, point_tokens, end_tokens, words_tokens, line_tokens, lines_tokens, head_tokens, last_tokens, file_tokens, AreTokens}
+use Rattle.ato_first.specs.declared.first_form.Point.TheVariants as points
+use Rattle.ato_first.specs.declared.first_form.End.{End}
+use Rattle.ato_first.specs.declared.first_form.End.TheVariants.{Name, Declared}
+use Rattle.ato_first.specs.declared.first_form.Line.{Line}
+use Rattle.ato_first.specs.declared.first_form.Line.TheVariants.{Pass, Declaration, Join, Kind, Attribute}
+use Rattle.ato_first.specs.declared.first_form.Line.TheVariants as lines
+use Rattle.ato_first.specs.declared.first_form.Assertion.{Assertion}
+use Rattle.ato_first.specs.declared.first_form.Block.{Block}
+use Rattle.ato_first.specs.FirstForm.{is_ascii_name, lined, point_text, end_text, line_text, lines_text, head_text, block_text, IsFile}
+use Rattle.ato_first.specs.FirstTokens.{token, label_token, name_token, number_token, point_tokens, end_tokens, words_tokens, line_tokens, lines_tokens, head_tokens, last_tokens, file_tokens, AreTokens}
 use Rattle.ato_first.specs.FirstBlock.{AreContentsWithin, IsPlaced, spelled_text, between, body_tokens, closed, text_step, kind_step, tokens_read}
 use Rattle.ato_first.specs.declared.first_block.Opening.TheVariants as openings
 use Rattle.ato_first.specs.declared.first_block.Reading.{Reading}

@@ -10,8 +10,8 @@ use Rattle.ato_base.specs.Joined.{Joined}
 use Rattle.ato_base.specs.declared.nets.NetList.{NetList}
 use Rattle.ato_base.proofs.ClassLaws.{first, later, parts_outs, class_points, classes_same, classes_map}
 use Rattle.ato_base.proofs.JoinedLaws.{joined_sym}
-use Rattle.ato_lexer.specs.declared.first_form.Point.TheVariants.{Signal, Pin}
-use Rattle.ato_lexer.specs.declared.first_form.Block.{Block}
+use Rattle.ato_first.specs.declared.first_form.Point.TheVariants.{Signal, Pin}
+use Rattle.ato_first.specs.declared.first_form.Block.{Block}
 use Rattle.ato_nets.specs.ClassNumbers.{IsJoin, AreClassNumbers}
 use Rattle.ato_first.specs.FirstPoints.{signals_of, pins_of, AreJoined, AreKnown}
 use Rattle.ato_first.specs.FirstJoins.{point_number, lines_joins}

@@ -9,8 +9,8 @@ use Rattle.ato_base.specs.declared.nets.NetList.{NetList}
 use Rattle.ato_base.proofs.ClassLaws.{cases, first, later, nowhere, in_range, class_related, class_shared, class_once}
 use Rattle.ato_base.proofs.JoinedLaws.{joined_sym, joined_trans, joined_is_least}
 use Rattle.ato_base.specs.LeastEquivalence.{IsLeastEquivalence}
-use Rattle.ato_lexer.specs.declared.first_form.Point.TheVariants.{Pin}
-use Rattle.ato_lexer.specs.declared.first_form.Block.{Block}
+use Rattle.ato_first.specs.declared.first_form.Point.TheVariants.{Pin}
+use Rattle.ato_first.specs.declared.first_form.Block.{Block}
 use Rattle.ato_first.specs.FirstNets.{net_pin, IsNet, IsNetList, StandsIn, SharesExactly}
 use Rattle.ato_first.specs.FirstPoints.{AreJoined, IsJoinedByLine}
 

@@ -11,13 +11,13 @@ use Rattle.ato_base.specs.Joined.{Joined}
 use Rattle.ato_base.specs.NameTable.{number_of}
 use Rattle.ato_base.proofs.ClassLaws.{cases, first, later, nowhere}
 use Rattle.ato_base.proofs.JoinedLaws.{joined_map}
-use Rattle.ato_lexer.specs.declared.first_form.Point.{Point}
-use Rattle.ato_lexer.specs.declared.first_form.Point.TheVariants.{Signal, Pin}
-use Rattle.ato_lexer.specs.declared.first_form.End.{End}
-use Rattle.ato_lexer.specs.declared.first_form.End.TheVariants.{Name, Declared}
-use Rattle.ato_lexer.specs.declared.first_form.Line.{Line}
-use Rattle.ato_lexer.specs.declared.first_form.Line.TheVariants.{Pass, Declaration, Join, Kind, Attribute, Assertion}
-use Rattle.ato_lexer.specs.declared.first_form.Block.{Block}
+use Rattle.ato_first.specs.declared.first_form.Point.{Point}
+use Rattle.ato_first.specs.declared.first_form.Point.TheVariants.{Signal, Pin}
+use Rattle.ato_first.specs.declared.first_form.End.{End}
+use Rattle.ato_first.specs.declared.first_form.End.TheVariants.{Name, Declared}
+use Rattle.ato_first.specs.declared.first_form.Line.{Line}
+use Rattle.ato_first.specs.declared.first_form.Line.TheVariants.{Pass, Declaration, Join, Kind, Attribute, Assertion}
+use Rattle.ato_first.specs.declared.first_form.Block.{Block}
 use Rattle.ato_nets.specs.ClassNumbers.{IsJoin}
 use Rattle.ato_first.specs.FirstPoints.{signal_names, pin_labels, end_points, line_points, lines_points, signals_of, pins_of, end_point, IsJoinedByLine, AreJoined, is_unknown_in, is_unknown_end, AreKnown}
 use Rattle.ato_first.specs.FirstJoins.{point_number, line_joins, lines_joins}

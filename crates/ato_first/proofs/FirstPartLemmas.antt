@@ -3,17 +3,17 @@ use Rattle.std.proofs.Common.{◌≡◌, ℕ, ◌≤◌, true, false, List, [], 
 use Rattle.std.specs.Prelude.{Option, Some, None, MatchOption, option_and_then, option_map, nat_lt}
 use Rattle.std.specs.List.{list_all, list_any}
 use Rattle.std.proofs.lemmas.Bool.{ltb-false}
-use Rattle.ato_lexer.specs.FirstForm.{is_line}
-use Rattle.ato_lexer.specs.PartLines.{kind_of, attribute_of, assertion_of}
+use Rattle.ato_first.specs.FirstForm.{is_line}
+use Rattle.ato_first.specs.PartLines.{kind_of, attribute_of, assertion_of}
 use Rattle.ato_catalog.specs.Ranges.{digits_value}
 use Rattle.ato_first.specs.ShownParts.{shown_part, IsInOrder}
 use Rattle.ato_first.specs.FirstParts.{part_with, part_of, is_empty_range}
 use Rattle.ato_first.specs.FirstParts as parts
 use Rattle.ato_first.specs.declared.first_parts.Part.{Part}
 use Rattle.ato_first.proofs.FirstNumberLemmas.{or_false}
-use Rattle.ato_lexer.specs.declared.first_form.Assertion.{Assertion}
-use Rattle.ato_lexer.specs.declared.first_form.Line.{Line}
-use Rattle.ato_lexer.specs.declared.first_form.Line.TheVariants as lines
+use Rattle.ato_first.specs.declared.first_form.Assertion.{Assertion}
+use Rattle.ato_first.specs.declared.first_form.Line.{Line}
+use Rattle.ato_first.specs.declared.first_form.Line.TheVariants as lines
 use Rattle.std.proofs.lemmas.Bool.{and_parts}
 
 -- each of some lines is of the form

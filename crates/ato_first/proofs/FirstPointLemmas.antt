@@ -4,10 +4,10 @@ use Rattle.std.proofs.lemmas.List.{take_more, take_all}
 use Rattle.std.proofs.lemmas.Grind.{flat_map-append}
 use Rattle.ato_base.specs.NameTable.{with_names}
 use Rattle.ato_base.proofs.NameTableLaws.{with_names-append}
-use Rattle.ato_lexer.specs.FirstForm.{lined, line_text, lines_text}
-use Rattle.ato_lexer.specs.declared.first_form.Point.{Point}
-use Rattle.ato_lexer.specs.declared.first_form.Point.TheVariants.{Signal, Pin}
-use Rattle.ato_lexer.specs.declared.first_form.Line.{Line}
+use Rattle.ato_first.specs.FirstForm.{lined, line_text, lines_text}
+use Rattle.ato_first.specs.declared.first_form.Point.{Point}
+use Rattle.ato_first.specs.declared.first_form.Point.TheVariants.{Signal, Pin}
+use Rattle.ato_first.specs.declared.first_form.Line.{Line}
 use Rattle.ato_first.specs.FirstPoints.{signal_names, pin_labels, line_points, lines_points}
 
 signal_names-append : (xs ys : List Point) → signal_names (xs ++ ys) ≡ signal_names xs ++ signal_names ys

@@ -7,3 +7,17 @@ pub mod FirstPartLemmas
 pub mod FirstPointLemmas
 pub mod LineFaultLemmas
 pub mod TextSetLemmas
+pub mod Bools
+pub mod Bytes
+pub mod PartLineLemmas
+pub mod FirstFormLemmas
+pub mod OnceLemmas
+pub mod FoundLemmas
+pub mod BadLineLemmas
+pub mod SignalLemmas
+pub mod FirstFormAscii
+pub mod FirstFormLaws
+pub mod PartLaws
+pub mod FormExamples
+pub mod Digits
+pub mod Reading

@@ -2,10 +2,10 @@
 use Rattle.std.proofs.Common.{◌≡◌, ℕ, ◌+◌, Bool, true, false, List, ◌∷◌, ◌++◌, length, ap, sym, ◌∙◌, subst, arith, length-append, []}
 use Rattle.std.specs.Prelude.{codes, Option}
 use Rattle.std.specs.List.{list_any}
-use Rattle.ato_lexer.specs.FirstForm.{lined, head_text, lines_text}
-use Rattle.ato_lexer.specs.PartLines.{attribute_of}
-use Rattle.ato_lexer.specs.declared.first_form.Line.{Line}
-use Rattle.ato_lexer.specs.declared.first_form.Block.{Block}
+use Rattle.ato_first.specs.FirstForm.{lined, head_text, lines_text}
+use Rattle.ato_first.specs.PartLines.{attribute_of}
+use Rattle.ato_first.specs.declared.first_form.Line.{Line}
+use Rattle.ato_first.specs.declared.first_form.Block.{Block}
 use Rattle.ato_first.specs.FirstPoints.{is_unknown, is_unknown_in, signals_of, AreKnown, IsFirstLineAt, IsUnknownAt}
 
 -- the place of a line in a file whose block begins with a name

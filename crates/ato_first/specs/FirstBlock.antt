@@ -8,11 +8,11 @@ use Rattle.ato_base.specs.declared.keywords.Keyword.{Keyword}
 use Rattle.ato_base.specs.declared.keywords.Keyword.TheVariants as words
 use Rattle.ato_base.specs.declared.keywords.Mark.{Mark}
 use Rattle.ato_base.specs.declared.keywords.Mark.TheVariants as marks
-use Rattle.ato_lexer.specs.declared.first_form.Point.TheVariants as points
-use Rattle.ato_lexer.specs.declared.first_form.End.{End}
-use Rattle.ato_lexer.specs.declared.first_form.End.TheVariants as ends
-use Rattle.ato_lexer.specs.declared.first_form.Line.{Line}
-use Rattle.ato_lexer.specs.declared.first_form.Line.TheVariants as lines
+use Rattle.ato_first.specs.declared.first_form.Point.TheVariants as points
+use Rattle.ato_first.specs.declared.first_form.End.{End}
+use Rattle.ato_first.specs.declared.first_form.End.TheVariants as ends
+use Rattle.ato_first.specs.declared.first_form.Line.{Line}
+use Rattle.ato_first.specs.declared.first_form.Line.TheVariants as lines
 use Rattle.ato_first.specs.declared.first_block.Opening.{Opening}
 use Rattle.ato_first.specs.declared.first_block.Opening.TheVariants.{Bare, Signal, Pin, Limit}
 use Rattle.ato_first.specs.declared.first_block.Reading.{Reading}

@@ -2,10 +2,10 @@
 use Rattle.std.specs.Prelude.{◌≡◌, ℕ, ◌+◌, List, [], ◌∷◌, length}
 use Rattle.std.specs.List.{flat_map}
 use Rattle.ato_base.specs.NameTable.{with_names, number_of}
-use Rattle.ato_lexer.specs.declared.first_form.Point.{Point}
-use Rattle.ato_lexer.specs.declared.first_form.Point.TheVariants.{Signal, Pin}
-use Rattle.ato_lexer.specs.declared.first_form.Line.{Line}
-use Rattle.ato_lexer.specs.declared.first_form.Line.TheVariants.{Join}
+use Rattle.ato_first.specs.declared.first_form.Point.{Point}
+use Rattle.ato_first.specs.declared.first_form.Point.TheVariants.{Signal, Pin}
+use Rattle.ato_first.specs.declared.first_form.Line.{Line}
+use Rattle.ato_first.specs.declared.first_form.Line.TheVariants.{Join}
 use Rattle.ato_first.specs.FirstPoints.{signal_names, pin_labels, end_point}
 use Rattle.ato_first.specs.declared.first_points.Points.{Points}
 

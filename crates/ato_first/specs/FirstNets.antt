@@ -6,8 +6,8 @@ use Rattle.ato_base.specs.declared.nets.Comp.{Comp}
 use Rattle.ato_base.specs.declared.nets.NetPin.{NetPin}
 use Rattle.ato_base.specs.declared.nets.Net.{Net}
 use Rattle.ato_base.specs.declared.nets.NetList.{NetList}
-use Rattle.ato_lexer.specs.declared.first_form.Point.TheVariants.{Signal, Pin}
-use Rattle.ato_lexer.specs.declared.first_form.Block.{Block}
+use Rattle.ato_first.specs.declared.first_form.Point.TheVariants.{Signal, Pin}
+use Rattle.ato_first.specs.declared.first_form.Block.{Block}
 use Rattle.ato_first.specs.FirstParts.{part_of}
 use Rattle.ato_first.specs.FirstPoints.{AreJoined, signals_of, pins_of}
 

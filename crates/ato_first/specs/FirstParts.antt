@@ -5,11 +5,11 @@ use Rattle.std.specs.List.{list_any}
 use Rattle.std.specs.Str.{bytes_eq}
 use Rattle.ato_rational.specs.Rational.{ℚ, whole}
 use Rattle.ato_rational.specs.Ranges.{IsWithin}
-use Rattle.ato_lexer.specs.PartLines.{kind_of, attribute_of, assertion_of}
-use Rattle.ato_lexer.specs.declared.first_form.Assertion.{Assertion}
-use Rattle.ato_lexer.specs.declared.first_form.Line.{Line}
-use Rattle.ato_lexer.specs.declared.first_form.Line.TheVariants as lines
-use Rattle.ato_lexer.specs.declared.first_form.Block.{Block}
+use Rattle.ato_first.specs.PartLines.{kind_of, attribute_of, assertion_of}
+use Rattle.ato_first.specs.declared.first_form.Assertion.{Assertion}
+use Rattle.ato_first.specs.declared.first_form.Line.{Line}
+use Rattle.ato_first.specs.declared.first_form.Line.TheVariants as lines
+use Rattle.ato_first.specs.declared.first_form.Block.{Block}
 use Rattle.ato_catalog.specs.Contents.{Contents, cell_under, numbered}
 use Rattle.ato_catalog.specs.Ranges.{digits_value}
 use Rattle.ato_catalog.specs.Rows.{PlainRow}

@@ -4,15 +4,15 @@ use Rattle.std.specs.List.{list_any, flat_map}
 use Rattle.std.specs.Str.{bytes_eq}
 use Rattle.ato_base.specs.Joined.{Joined}
 use Rattle.ato_nets.specs.Distinct.{distinct}
-use Rattle.ato_lexer.specs.FirstForm.{lined, head_text, lines_text}
-use Rattle.ato_lexer.specs.declared.first_form.Point.{Point}
-use Rattle.ato_lexer.specs.declared.first_form.Point.TheVariants.{Signal, Pin}
-use Rattle.ato_lexer.specs.declared.first_form.End.{End}
-use Rattle.ato_lexer.specs.declared.first_form.End.TheVariants.{Name, Declared}
-use Rattle.ato_lexer.specs.declared.first_form.Line.{Line}
-use Rattle.ato_lexer.specs.declared.first_form.Line.TheVariants.{Declaration, Join, Assertion}
-use Rattle.ato_lexer.specs.PartLines.{attribute_of}
-use Rattle.ato_lexer.specs.declared.first_form.Block.{Block}
+use Rattle.ato_first.specs.FirstForm.{lined, head_text, lines_text}
+use Rattle.ato_first.specs.declared.first_form.Point.{Point}
+use Rattle.ato_first.specs.declared.first_form.Point.TheVariants.{Signal, Pin}
+use Rattle.ato_first.specs.declared.first_form.End.{End}
+use Rattle.ato_first.specs.declared.first_form.End.TheVariants.{Name, Declared}
+use Rattle.ato_first.specs.declared.first_form.Line.{Line}
+use Rattle.ato_first.specs.declared.first_form.Line.TheVariants.{Declaration, Join, Assertion}
+use Rattle.ato_first.specs.PartLines.{attribute_of}
+use Rattle.ato_first.specs.declared.first_form.Block.{Block}
 
 -- the points that are declared, in their order
 abbrev pub end_points : End → List Point

@@ -1,7 +1,11 @@
 pub mod FirstBlock
+pub mod FirstForm
 pub mod FirstGroups
 pub mod FirstJoins
 pub mod FirstNets
 pub mod FirstParts
 pub mod FirstPoints
+pub mod FirstTokens
+pub mod PartLines
 pub mod ShownParts
+pub mod Statements

@@ -1,13 +1,13 @@
 ghost use Rattle.std.specs.Prelude.{◌≡◌, ◌≤◌, ◌∷◌, ◌++◌, [], IfOk, List, ℕ, Option, All, length};
 ghost use Rattle.std.specs.Str.{IsAscii};
 ghost use Rattle.ato_base.specs.declared.places.FileId.{FileId};
-ghost use Rattle.ato_lexer.specs.declared.first_form.Block.{Block};
-ghost use Rattle.ato_lexer.specs.FirstForm.{IsFile};
-ghost use Rattle.ato_lexer.specs.FirstTokens.{AreTokens};
+ghost use Rattle.ato_first.specs.declared.first_form.Block.{Block};
+ghost use Rattle.ato_first.specs.FirstForm.{IsFile};
+ghost use Rattle.ato_first.specs.FirstTokens.{AreTokens};
 ghost use Rattle.ato_first.specs.FirstBlock.{IsPlaceWithin, IsPlaced, spelled_text, between, body_tokens, end_of, word_of, declared, closed, keyword_step, mark_step, text_step, kind_step, tokens_read};
 
+use crate::first_form::{Assertion, Block, End, Line, Point};
 use ato_base::{Keyword, List, Mark, NoMemory, Span, Text, Token, TokenKind};
-use ato_lexer::{Assertion, Block, End, Line, Point};
 use std::alloc::Global;
 
 /// What the next name or number of a line is.

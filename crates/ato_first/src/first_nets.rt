@@ -1,14 +1,14 @@
 ghost use Rattle.std.specs.Prelude.{◌≡◌, ◌+◌, ◌<◌, ◌||◌, nat_lt, All, IfOk, length, map};
-ghost use Rattle.ato_lexer.specs.declared.first_form.Block.{Block};
+ghost use Rattle.ato_first.specs.declared.first_form.Block.{Block};
 ghost use Rattle.ato_first.specs.FirstPoints.{AreJoined, AreKnown, IsJoinedByLine, pins_of};
 ghost use Rattle.ato_base.specs.LeastEquivalence.{IsLeastEquivalence};
 ghost use Rattle.ato_first.specs.FirstGroups.{class_name, group_net, label_at};
 ghost use Rattle.ato_first.specs.FirstParts.{part_of, slot_count};
 ghost use Rattle.ato_first.specs.FirstNets.{comps_with, net_pin, IsNetList, SharesExactly};
 
+use crate::first_form::Block;
 use crate::first_points::{Points, joins_of, points_of};
 use ato_base::{Comp, List, Net, NetList, NetPin, NoMemory, Text};
-use ato_lexer::Block;
 use ato_nets::{class_numbers, groups_of};
 use std::alloc::Global;
 

@@ -2,13 +2,13 @@
 ghost use Rattle.std.specs.Prelude.{◌≡◌, true, MatchOption, None, Some};
 ghost use Rattle.std.specs.List.{list_all};
 ghost use Rattle.std.specs.Option.{option_copied};
-ghost use Rattle.ato_lexer.specs.FirstForm.{is_line};
-ghost use Rattle.ato_lexer.specs.PartLines.{kind_of, attribute_of, assertion_of};
+ghost use Rattle.ato_first.specs.FirstForm.{is_line};
+ghost use Rattle.ato_first.specs.PartLines.{kind_of, attribute_of, assertion_of};
 ghost use Rattle.ato_first.specs.FirstParts.{part_of};
 
+use crate::first_form::{Assertion, Line};
 use crate::first_lines::ends_of;
 use ato_base::Text;
-use ato_lexer::{Assertion, Line};
 
 /// A part: its kind, its attribute, and the least and the greatest value that is asserted of it.
 #[derive(Clone, Copy)]

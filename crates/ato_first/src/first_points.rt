@@ -3,9 +3,9 @@ ghost use Rattle.ato_first.specs.FirstPoints.{signal_names, pin_labels, end_poin
 ghost use Rattle.ato_nets.specs.Distinct.{distinct};
 ghost use Rattle.ato_first.specs.FirstJoins.{Adds, point_number, line_joins, lines_joins};
 
+use crate::first_form::{End, Line, Point};
 use crate::text_set::TextSet;
 use ato_base::NoMemory;
-use ato_lexer::{End, Line, Point};
 use std::alloc::Global;
 
 /// The points of a block: the names of its signals and the labels of its pins.

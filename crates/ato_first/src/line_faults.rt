@@ -1,14 +1,14 @@
 //! The first line of a block that has a fault.
 ghost use Rattle.std.specs.Prelude.{◌≡◌, ◌+◌, ◌<◌, ◌^◌, IfOk, MatchOption, length};
-ghost use Rattle.ato_lexer.specs.FirstForm.{block_text, IsFront};
+ghost use Rattle.ato_first.specs.FirstForm.{block_text, IsFront};
 ghost use Rattle.ato_first.specs.FirstPoints.{AreKnown, IsUnknownAt};
 ghost use Rattle.ato_first.specs.FirstParts.{HasRanges, IsEmptyAt};
 
+use crate::first_form::Block;
 use crate::first_lines::{EmptyRange, UnknownName, first_line};
 use crate::first_parts::attribute_of;
 use crate::first_points::points_of;
 use ato_base::NoMemory;
-use ato_lexer::Block;
 use std::alloc::Global;
 
 /// Where the lines of a block begin.

@@ -1,6 +1,6 @@
 use Rattle.std.proofs.Common.{arith, ap, ◌∙◌, sym, subst, []}
 use Rattle.std.specs.Prelude.{All}
-use Rattle.ato_lexer.proofs.FirstFormLaws.{file_ascii}
+use Rattle.ato_first.proofs.FirstFormLaws.{file_ascii}
 use Rattle.ato_first.specs.FirstBlock.{IsPlaced, between, tokens_read}
 use Rattle.ato_first.proofs.FirstBlockLemmas.{tokens_within, body_within, read_is}
 use Rattle.ato_first.proofs.first_block.read_block.Goals as goal

@@ -1,5 +1,5 @@
 use Rattle.std.proofs.Common.{ap, ◌∙◌}
-use Rattle.ato_lexer.specs.FirstForm.{is_short_number}
+use Rattle.ato_first.specs.FirstForm.{is_short_number}
 use Rattle.std.proofs.lemmas.Bool.{and_parts}
 use Rattle.ato_first.proofs.first_lines.ends_of.Goals as goal
 

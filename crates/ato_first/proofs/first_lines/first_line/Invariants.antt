@@ -1,6 +1,6 @@
 use Rattle.std.proofs.Common.{◌≡◌, ◌+◌, false, take, length}
 use Rattle.std.specs.List.{list_any}
-use Rattle.ato_lexer.specs.FirstForm.{lines_text}
+use Rattle.ato_first.specs.FirstForm.{lines_text}
 use Rattle.ato_first.proofs.first_lines.first_line.Given as goal
 
 abbrev pub invariant-loop-line : goal.invariant-loop-line

@@ -1,5 +1,5 @@
 use Rattle.std.proofs.Common.{◌≡◌, drop}
-use Rattle.ato_lexer.specs.PartLines.{attribute_of}
+use Rattle.ato_first.specs.PartLines.{attribute_of}
 use Rattle.ato_first.proofs.first_parts.attribute_of.Given as goal
 
 abbrev pub invariant-loop-line : goal.invariant-loop-line

@@ -1,5 +1,5 @@
 use Rattle.std.proofs.Common.{◌∙◌, ap}
-use Rattle.ato_lexer.specs.PartLines.{attribute_of}
+use Rattle.ato_first.specs.PartLines.{attribute_of}
 use Rattle.ato_nets.specs.Distinct.{distinct}
 use Rattle.ato_first.specs.FirstPoints.{signal_names, lines_points}
 use Rattle.ato_first.proofs.LineFaultLemmas.{unknown_found}

@@ -1,5 +1,0 @@
-use Rattle.ato_lexer.proofs.PartLineLemmas.{attribute_read}
-use Rattle.ato_lexer.proofs.part_lines.attribute_of.Goals as goal
-
-pub returns-in-Some : goal.returns-in-Some
-returns-in-Some c = attribute_read c.args.text.now c.in-Some.name.now c.attribute_name.result c.in-Some.ensures c.attribute_name.ensures

@@ -1,4 +1,0 @@
-pub mod PartLines
-pub mod FirstForm
-pub mod FirstTokens
-pub mod Statements
