@@ -79,6 +79,22 @@ const CASES: &[Case] = &[
     ("make", 1, 1, 1, 6, "", Nothing, Nothing),
 ];
 
+/// A shelf whose read of this number fails.
+fn failing_shelf(alloc: Global, read: u32) -> Result<MemShelf, NoMemory> {
+    let held = files(alloc, SOURCE, NO_ROWS)?;
+    Ok(MemShelf::new(held, one(alloc, read)?))
+}
+
+/// A sink whose write of this number fails.
+fn failing_sink(alloc: Global, print: u32) -> Result<MemSink, NoMemory> {
+    MemSink::new(alloc, 200, one(alloc, print)?)
+}
+
+/// A tray that keeps so many bytes of the put of this number, which fails.
+fn failing_tray(alloc: Global, put: u32, kept: u32) -> Result<MemTray, NoMemory> {
+    Ok(MemTray::new(alloc, one(alloc, (put, kept))?))
+}
+
 /// What a run gives where the calls of these numbers fail.
 fn failing(
     alloc: Global,
@@ -87,9 +103,9 @@ fn failing(
     put: u32,
     print: u32,
 ) -> Result<(u8, MemTray, MemSink), NoMemory> {
-    let mut shelf = MemShelf::new(files(alloc, SOURCE, NO_ROWS)?, one(alloc, read)?);
-    let mut tray = MemTray::new(alloc, one(alloc, (put, KEPT as u32))?);
-    let mut sink = MemSink::new(alloc, 200, one(alloc, print)?)?;
+    let mut shelf = failing_shelf(alloc, read)?;
+    let mut tray = failing_tray(alloc, put, KEPT as u32)?;
+    let mut sink = failing_sink(alloc, print)?;
     let code = code_of(alloc, line, &mut shelf, &mut tray, &mut sink)?;
     Ok((code, tray, sink))
 }
@@ -120,7 +136,7 @@ fn each_failing_call_is_told(rt: HostRuntime) -> Result<(), Fail> {
 /// Whether a run whose first put fails after so many bytes tells it and leaves those bytes.
 fn stops_after(alloc: Global, netlist: &[u8], kept: u32) -> Result<bool, NoMemory> {
     let mut shelf = SureShelf::new(files(alloc, SOURCE, NO_ROWS)?);
-    let mut tray = MemTray::new(alloc, one(alloc, (1, kept))?);
+    let mut tray = failing_tray(alloc, 1, kept)?;
     let mut sink = wide_sink(alloc)?;
     let found = code_of(alloc, JOB, &mut shelf, &mut tray, &mut sink)?;
     let most = netlist.len().min(kept as usize);
