@@ -1,0 +1,50 @@
+//! Laws on the tokens of a file, as contracts.
+ghost use Rattle.std.specs.Prelude.{◌≡◌, ◌⊎◌, ℕ, List, true};
+ghost use Rattle.std.specs.List.{flat_map};
+ghost use Rattle.ato_base.specs.NameTable.{with_names};
+ghost use Rattle.ato_base.specs.declared.faults.Fault.{Fault};
+ghost use Rattle.ato_base.specs.declared.faults.Refusal.TheVariants as refusals;
+ghost use Rattle.ato_base.specs.declared.places.FileId.{FileId};
+ghost use Rattle.ato_base.specs.declared.tokens.Token.{Token};
+ghost use Rattle.ato_frac.specs.Decimals.{RefusesText};
+ghost use Rattle.ato_frac.specs.declared.faults.DecimalFault.TheVariants as decimal_faults;
+ghost use Rattle.ato_lexer.specs.Pieces.{Piece, pieces};
+ghost use Rattle.ato_lexer.specs.Tokens.{AreTokens, IsRefused, names_in, tokens_of};
+ghost use Rattle.ato_lexer.specs.WideNumbers.{is_wide};
+
+/// A file has one list of tokens at most, and one table of names with them.
+#[tactic(auto, using(crate::proofs::TokenLaws::one_list))]
+pub fn one_list()
+    ensures { (bytes : List ℕ) (file : FileId) (old new other : List (List ℕ)) (tokens others : List Token) → AreTokens bytes file old new tokens → AreTokens bytes file old other others → (other ≡ new) × (others ≡ tokens) }
+{}
+
+/// A file has one first fault at most.
+#[tactic(auto, using(crate::proofs::TokenLaws::one_fault))]
+pub fn one_fault()
+    ensures { (bytes : List ℕ) (file : FileId) (f g : Fault) → IsRefused bytes file (refusals.Fault f) → IsRefused bytes file (refusals.Fault g) → f ≡ g }
+{}
+
+/// A file never has both tokens and a fault.
+#[tactic(auto, using(crate::proofs::TokenLaws::never_both))]
+pub fn never_both()
+    ensures { (bytes : List ℕ) (file : FileId) (old new : List (List ℕ)) (tokens : List Token) (f : Fault) → AreTokens bytes file old new tokens → IsRefused bytes file (refusals.Fault f) → ⊥ }
+{}
+
+/// A file has tokens or a fault.
+#[tactic(auto, using(crate::proofs::TokenLaws::has_one))]
+pub fn has_one()
+    ensures { (bytes : List ℕ) (file : FileId) (old : List (List ℕ)) → AreTokens bytes file old (with_names old (names_in bytes)) (tokens_of (with_names old (names_in bytes)) file bytes) ⊎ ((f : Fault) × IsRefused bytes file (refusals.Fault f)) }
+{}
+
+/// The pieces of a text are the whole text: nothing is left out, and nothing stands twice.
+#[tactic(auto, using(crate::proofs::CoverLaws::covers))]
+pub fn pieces_cover()
+    ensures { (text : List ℕ) → flat_map (λ (p : Piece). p.text) (pieces text) ≡ text }
+{}
+
+/// A number is wide exactly where a fraction refuses its text as wide.
+#[tactic(auto, using(crate::proofs::WideLaws::wide_refused, crate::proofs::WideLaws::refused_wide))]
+pub fn wide_is_refused()
+    ensures refused { (text : List ℕ) → is_wide text ≡ true → RefusesText text decimal_faults.Wide }
+    ensures wide { (text : List ℕ) → RefusesText text decimal_faults.Wide → is_wide text ≡ true }
+{}

@@ -1,0 +1,12 @@
+//! Which tokens a source file has, or its first fault.
+//!
+//! `AreTokens` of specs/Tokens.antt says which tokens the bytes of a file have, and `IsRefused` which
+//! fault stands where they have none. A text is cut into pieces (specs/Pieces.antt), the pieces between
+//! line ends are its logical lines (specs/Lines.antt), and what stands before and behind these follows
+//! from the list of their depths (specs/Layout.antt). For now the crate has these definitions and the
+//! laws about them: a file has one list of tokens or one fault, and never both.
+#![tactic(auto)]
+
+mod laws;
+
+pub use laws::{has_one, never_both, one_fault, one_list, pieces_cover, wide_is_refused};
