@@ -79,18 +79,29 @@ take_some : (n c : ℕ) (cs : List ℕ) → 0 < n → 0 < length (take n (c ∷ 
 take_some zero c cs h = absurd (omega (arith, h))
 take_some (suc n) c cs h = omega arith
 
+-- the first piece is the front of the text, and has a character
+pub record IsTaken (c : ℕ) (cs : List ℕ) : Type 0 where
+  pub some : 0 < length (front_piece c cs).text
+  pub front : take (length (front_piece c cs).text) (c ∷ cs) ≡ (front_piece c cs).text
+
+pub front_taken : (c : ℕ) (cs : List ℕ) → IsTaken c cs
+front_taken c cs =
+    let k = front_is c cs in
+    record {
+      some = subst (λ (xs : List ℕ). 0 < length xs) (sym k.is) (take_some k.len c cs k.some);
+      front = ap (λ (xs : List ℕ). take (length xs) (c ∷ cs)) k.is ∙ (take_len k.len (c ∷ cs) ∙ sym k.is);
+    }
+
 cover_within : (n : ℕ) (text : List ℕ) → length text ≤ n → flat_map (λ (p : Piece). p.text) (pieces_within n text) ≡ text
 unfolding pieces_within
 cover_within zero [] h = refl
 cover_within zero (c ∷ cs) h = absurd (omega (arith, h))
 cover_within (suc n) [] h = refl
 cover_within (suc n) (c ∷ cs) h =
-    let k = front_is c cs in
     let size = length (front_piece c cs).text in
-    let some : 0 < size = subst (λ (xs : List ℕ). 0 < length xs) (sym k.is) (take_some k.len c cs k.some) in
-    let front : take size (c ∷ cs) ≡ (front_piece c cs).text = ap (λ (xs : List ℕ). take (length xs) (c ∷ cs)) k.is ∙ (take_len k.len (c ∷ cs) ∙ sym k.is) in
-    let rest = cover_within n (drop size (c ∷ cs)) (omega (arith, length-drop size (c ∷ cs), some, h)) in
-    ap (λ (xs : List ℕ). (front_piece c cs).text ++ xs) rest ∙ (ap (λ (xs : List ℕ). xs ++ drop size (c ∷ cs)) (sym front) ∙ take-append-drop size (c ∷ cs))
+    let k = front_taken c cs in
+    let rest = cover_within n (drop size (c ∷ cs)) (omega (arith, length-drop size (c ∷ cs), k.some, h)) in
+    ap (λ (xs : List ℕ). (front_piece c cs).text ++ xs) rest ∙ (ap (λ (xs : List ℕ). xs ++ drop size (c ∷ cs)) (sym k.front) ∙ take-append-drop size (c ∷ cs))
 
 pub covers : (text : List ℕ) → flat_map (λ (p : Piece). p.text) (pieces text) ≡ text
 unfolding pieces

@@ -39,7 +39,7 @@ written mark = record { mark = mark; text = mark_text mark }
 -- the spellings of the marks, the longer ones first. U+00B1 is the plus-minus sign
 abbrev pub all_marks : List Written
 all_marks =
-    written marks.PlusMinus ∷ record { mark = marks.PlusMinus; text = 0xB1 ∷ [] } ∷ written marks.Arrow ∷ written marks.Power ∷ written marks.LessEqual ∷ written marks.GreaterEqual
+    written marks.PlusMinus ∷ written marks.Arrow ∷ written marks.Power ∷ written marks.LessEqual ∷ written marks.GreaterEqual ∷ record { mark = marks.PlusMinus; text = 0xB1 ∷ [] }
     ∷ written marks.Less ∷ written marks.Greater ∷ written marks.Equal ∷ written marks.Tilde ∷ written marks.Colon ∷ written marks.Semicolon ∷ written marks.Comma ∷ written marks.Dot
     ∷ written marks.LeftParenthesis ∷ written marks.RightParenthesis ∷ written marks.LeftBracket ∷ written marks.RightBracket
     ∷ written marks.Plus ∷ written marks.Minus ∷ written marks.Star ∷ written marks.Slash ∷ written marks.Bar ∷ written marks.Percent ∷ []

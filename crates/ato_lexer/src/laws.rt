@@ -1,6 +1,6 @@
 //! Laws on the tokens of a file, as contracts.
-ghost use Rattle.std.specs.Prelude.{◌≡◌, ◌⊎◌, ℕ, List, true};
-ghost use Rattle.std.specs.List.{flat_map};
+ghost use Rattle.std.specs.Prelude.{◌≡◌, ◌⊎◌, ◌∷◌, ◌++◌, ℕ, List, not, length, true};
+ghost use Rattle.std.specs.List.{flat_map, list_all};
 ghost use Rattle.ato_base.specs.NameTable.{with_names};
 ghost use Rattle.ato_base.specs.declared.faults.Fault.{Fault};
 ghost use Rattle.ato_base.specs.declared.faults.Refusal.TheVariants as refusals;
@@ -8,7 +8,9 @@ ghost use Rattle.ato_base.specs.declared.places.FileId.{FileId};
 ghost use Rattle.ato_base.specs.declared.tokens.Token.{Token};
 ghost use Rattle.ato_frac.specs.Decimals.{RefusesText};
 ghost use Rattle.ato_frac.specs.declared.faults.DecimalFault.TheVariants as decimal_faults;
-ghost use Rattle.ato_lexer.specs.Pieces.{Piece, pieces};
+ghost use Rattle.ato_lexer.specs.Fronts.{begins, three};
+ghost use Rattle.ato_lexer.specs.Pieces.{Kind, Piece, is_bad, front_piece, pieces_of, pieces, bad_char, open_string};
+ghost use Rattle.ato_lexer.specs.Spellings.{is_quote, Spells, IsCut};
 ghost use Rattle.ato_lexer.specs.Tokens.{AreTokens, IsRefused, names_in, tokens_of};
 ghost use Rattle.ato_lexer.specs.WideNumbers.{is_wide};
 
@@ -40,6 +42,28 @@ pub fn has_one()
 #[tactic(auto, using(crate::proofs::CoverLaws::covers))]
 pub fn pieces_cover()
     ensures { (text : List ℕ) → flat_map (λ (p : Piece). p.text) (pieces text) ≡ text }
+{}
+
+/// Where no piece is a fault, the pieces are the text's cut into spellings, each the longest possible; and no other list of
+/// pieces is such a cut.
+#[tactic(auto, using(crate::proofs::CutLaws::longest_cut, crate::proofs::CutLaws::one_cut))]
+pub fn pieces_are_longest()
+    ensures cut { (text : List ℕ) → list_all (λ (p : Piece). not (is_bad p.kind)) (pieces_of text) ≡ true → IsCut text (pieces_of text) }
+    ensures one { (text : List ℕ) (ps : List Piece) → IsCut text ps → pieces_of text ≡ ps }
+{}
+
+/// A character is bad only where no spelling begins with it.
+#[tactic(auto, using(crate::proofs::CutLaws::nothing_begins))]
+pub fn bad_char_begins_nothing()
+    ensures { (c : ℕ) (cs : List ℕ) (k : Kind) (s after : List ℕ) → (front_piece c cs).kind ≡ bad_char → c ∷ cs ≡ s ++ after → Spells k s → ⊥ }
+{}
+
+/// A string is open only where a quote begins it, and no spelling stands there: but two quotes of three, which begin a triple
+/// string.
+#[tactic(auto, using(crate::proofs::CutLaws::open_begins))]
+pub fn open_string_has_no_end()
+    ensures quote { (c : ℕ) (cs : List ℕ) → (front_piece c cs).kind ≡ open_string → is_quote c ≡ true }
+    ensures no_end { (c : ℕ) (cs : List ℕ) (k : Kind) (s after : List ℕ) → (front_piece c cs).kind ≡ open_string → c ∷ cs ≡ s ++ after → Spells k s → (length s ≡ 2) × (begins (three c) (c ∷ cs) ≡ true) }
 {}
 
 /// A number is wide exactly where a fraction refuses its text as wide.

@@ -4,9 +4,13 @@
 //! fault stands where they have none. A text is cut into pieces (specs/Pieces.antt), the pieces between
 //! line ends are its logical lines (specs/Lines.antt), and what stands before and behind these follows
 //! from the list of their depths (specs/Layout.antt). For now the crate has these definitions and the
-//! laws about them: a file has one list of tokens or one fault, and never both.
+//! laws about them: a file has one list of tokens or one fault, and never both; each piece is the longest
+//! possible (specs/Spellings.antt).
 #![tactic(auto)]
 
 mod laws;
 
-pub use laws::{has_one, never_both, one_fault, one_list, pieces_cover, wide_is_refused};
+pub use laws::{
+    bad_char_begins_nothing, has_one, never_both, one_fault, one_list, open_string_has_no_end,
+    pieces_are_longest, pieces_cover, wide_is_refused,
+};
