@@ -226,3 +226,11 @@ indent_before_bad = refl
 pub no_fault_in_comment : first (35 ∷ 0 ∷ 13 ∷ 36 ∷ 96 ∷ []) ≡ None
 unfolding on_literals
 no_fault_in_comment = refl
+
+pub dollar : first (codes "a $ b") ≡ bad faults.BadChar 2 3
+unfolding on_literals
+dollar = refl
+
+pub open_value : first (codes "x = \"a") ≡ bad faults.OpenString 4 5
+unfolding on_literals
+open_value = refl

@@ -1,6 +1,6 @@
 -- What stands before, between and after the logical lines of a text: levels, line ends and faults.
-use Rattle.std.specs.Prelude.{ℕ, ◌==◌, nat_lt, Bool, false, if◌then◌else◌, List, [], ◌∷◌, ◌++◌, map, length, drop}
-use Rattle.std.specs.List.{prefix_len, repeat}
+use Rattle.std.specs.Prelude.{ℕ, ◌==◌, ◌||◌, nat_eq, nat_lt, Bool, true, false, if◌then◌else◌, List, [], ◌∷◌, ◌++◌, map, length, drop, Option, Some, None}
+use Rattle.std.specs.List.{list_any, prefix_len, repeat}
 use Rattle.ato_base.specs.declared.faults.FaultKind.{FaultKind}
 use Rattle.ato_base.specs.declared.faults.FaultKind.TheVariants as faults
 use Rattle.ato_lexer.specs.Pieces.{Kind, number}
@@ -15,6 +15,39 @@ pub data Item : Type 0 where
   dedent : ℕ → Item
   end : ℕ → Item
   fault : FaultKind → ℕ → ℕ → Item
+
+-- where an item begins
+abbrev pub start_of : Item → ℕ
+start_of (token p) = p.start
+start_of (newline at) = at
+start_of (indent at) = at
+start_of (dedent at) = at
+start_of (end at) = at
+start_of (fault k start stop) = start
+
+-- where an item ends. A fault takes no place of its own: the token at which it stands may follow it
+abbrev pub stop_of : Item → ℕ
+stop_of (token p) = p.end
+stop_of (newline at) = at
+stop_of (indent at) = at
+stop_of (dedent at) = at
+stop_of (end at) = at
+stop_of (fault k start stop) = start
+
+-- the piece that an item is, if it is one
+abbrev pub item_piece : Item → Option Placed
+item_piece (token p) = Some p
+item_piece _ = None
+
+-- an item opens a level
+abbrev pub is_indent : Item → Bool
+is_indent (indent at) = true
+is_indent _ = false
+
+-- an item closes a level
+abbrev pub is_dedent : Item → Bool
+is_dedent (dedent at) = true
+is_dedent _ = false
 
 -- the depth of the deepest open level. The list has the open levels above depth 0, the deepest first
 abbrev pub top : List ℕ → ℕ
@@ -33,12 +66,16 @@ kept depth levels = drop (left depth levels) levels
 abbrev pub opened : ℕ → List ℕ → List ℕ
 opened depth levels = if nat_lt (top levels) depth then depth ∷ levels else kept depth levels
 
+-- a depth is an open level: 0 is one always
+abbrev pub is_open : ℕ → List ℕ → Bool
+is_open depth levels = (depth == 0) || list_any (nat_eq depth) levels
+
 -- what stands before the first token of a line: INDENT, a DEDENT for each level that is left, or the fault of a depth that
 -- is no open level
 abbrev pub steps : ℕ → Placed → List ℕ → List Item
 steps depth first levels =
     if nat_lt (top levels) depth then indent first.start ∷ []
-    else (if top (kept depth levels) == depth then repeat (left depth levels) (dedent first.start ∷ [])
+    else (if is_open depth levels then repeat (left depth levels) (dedent first.start ∷ [])
     else fault faults.BadIndent first.start first.end ∷ [])
 
 -- a piece is a number that is wide

@@ -1,6 +1,7 @@
 //! Laws on the tokens of a file, as contracts.
-ghost use Rattle.std.specs.Prelude.{◌≡◌, ◌⊎◌, ◌∷◌, ◌++◌, ℕ, List, not, length, true};
-ghost use Rattle.std.specs.List.{flat_map, list_all};
+ghost use Rattle.std.specs.Prelude.{◌≡◌, ◌⊎◌, ◌∷◌, ◌++◌, ◌-◌, ◌≤◌, ℕ, List, not, length, take, drop, count_by, None, true};
+ghost use Rattle.std.specs.List.{flat_map, filter, filter_map, list_all, All, AllPairs};
+ghost use Rattle.std.specs.Str.{is_utf8, encode_utf8_all};
 ghost use Rattle.ato_base.specs.NameTable.{with_names};
 ghost use Rattle.ato_base.specs.declared.faults.Fault.{Fault};
 ghost use Rattle.ato_base.specs.declared.faults.Refusal.TheVariants as refusals;
@@ -11,7 +12,9 @@ ghost use Rattle.ato_frac.specs.declared.faults.DecimalFault.TheVariants as deci
 ghost use Rattle.ato_lexer.specs.Fronts.{begins, three};
 ghost use Rattle.ato_lexer.specs.Pieces.{Kind, Piece, is_bad, front_piece, pieces_of, pieces, bad_char, open_string};
 ghost use Rattle.ato_lexer.specs.Spellings.{is_quote, Spells, IsCut};
-ghost use Rattle.ato_lexer.specs.Tokens.{AreTokens, IsRefused, names_in, tokens_of};
+ghost use Rattle.ato_lexer.specs.Lines.{Placed, is_token};
+ghost use Rattle.ato_lexer.specs.Layout.{Item, start_of, stop_of, item_piece, is_indent, is_dedent};
+ghost use Rattle.ato_lexer.specs.Tokens.{AreTokens, IsRefused, first_fault, items, names_in, pieces_in, tokens_of};
 ghost use Rattle.ato_lexer.specs.WideNumbers.{is_wide};
 
 /// A file has one list of tokens at most, and one table of names with them.
@@ -64,6 +67,35 @@ pub fn bad_char_begins_nothing()
 pub fn open_string_has_no_end()
     ensures quote { (c : ℕ) (cs : List ℕ) → (front_piece c cs).kind ≡ open_string → is_quote c ≡ true }
     ensures no_end { (c : ℕ) (cs : List ℕ) (k : Kind) (s after : List ℕ) → (front_piece c cs).kind ≡ open_string → c ∷ cs ≡ s ++ after → Spells k s → (length s ≡ 2) × (begins (three c) (c ∷ cs) ≡ true) }
+{}
+
+/// What stands in a file stands in the order of its places: so the first fault of it is the first one by its place.
+#[tactic(auto, using(crate::proofs::OrderLaws::in_order))]
+pub fn items_are_in_order()
+    ensures { (bytes : List ℕ) → is_utf8 bytes ≡ true → AllPairs (λ (i j : Item). stop_of i ≤ start_of j) (items bytes) }
+{}
+
+/// The places of a file's tokens rise: each begins where the one before it ends, or later.
+pub fn tokens_are_in_order()
+    ensures { (bytes : List ℕ) (file : FileId) (names : List (List ℕ)) → is_utf8 bytes ≡ true → AllPairs (λ (s t : Token). s.at.end ≤ t.at.start) (tokens_of names file bytes) }
+{}
+
+/// Each piece of a file is spelled by the bytes between its places.
+#[tactic(auto, using(crate::proofs::SliceLaws::slices))]
+pub fn pieces_are_slices()
+    ensures { (bytes : List ℕ) → is_utf8 bytes ≡ true → All (λ (p : Placed). take (p.end - p.start) (drop p.start bytes) ≡ encode_utf8_all p.piece.text) (pieces_in bytes) }
+{}
+
+/// Where a file has no fault, its tokens are its pieces that are no blanks, in their order, and what lies between two tokens is blank.
+#[tactic(auto, using(crate::proofs::SliceLaws::tokens_are_pieces))]
+pub fn tokens_are_pieces()
+    ensures { (bytes : List ℕ) (file : FileId) → first_fault file bytes ≡ None → filter_map item_piece (items bytes) ≡ filter (λ (p : Placed). is_token p.piece.kind) (pieces_in bytes) }
+{}
+
+/// Each level that is opened is closed: a file without a fault has as many DEDENTs as INDENTs.
+#[tactic(auto, using(crate::proofs::LevelLaws::balanced))]
+pub fn levels_are_closed()
+    ensures { (bytes : List ℕ) (file : FileId) → first_fault file bytes ≡ None → count_by is_indent (items bytes) ≡ count_by is_dedent (items bytes) }
 {}
 
 /// A number is wide exactly where a fraction refuses its text as wide.

@@ -11,6 +11,7 @@
 mod laws;
 
 pub use laws::{
-    bad_char_begins_nothing, has_one, never_both, one_fault, one_list, open_string_has_no_end,
-    pieces_are_longest, pieces_cover, wide_is_refused,
+    bad_char_begins_nothing, has_one, items_are_in_order, levels_are_closed, never_both, one_fault,
+    one_list, open_string_has_no_end, pieces_are_longest, pieces_are_slices, pieces_cover,
+    tokens_are_in_order, tokens_are_pieces, wide_is_refused,
 };
