@@ -1,5 +1,5 @@
 //! The tokens of literals, each spelled as long as it can be.
-ghost use Rattle.std.specs.Prelude.{◌≡◌, ◌<◌, ◌∷◌, [], MatchOption, option_map, length};
+ghost use Rattle.std.specs.Prelude.{◌≡◌, ◌<◌, ◌∷◌, option_map, length};
 ghost use Rattle.std.specs.Char.{is_ascii_digit};
 ghost use Rattle.std.specs.Str.{chars};
 ghost use Rattle.unicode_ident.specs.Ident.{is_xid_continue};
@@ -7,7 +7,7 @@ ghost use Rattle.ato_units.specs.Literals.{is_blank, number, word_token};
 ghost use Rattle.ato_units.specs.LiteralReading.{is_nothing, past, before, begins_with_digit, past_fraction, past_sign, past_exponent, past_number, past_minus, past_slash, front_mark, front_token, next_token};
 ghost use Rattle.ato_units.specs.Spellings.{HasEnd, spelled_token, cut_token};
 
-use ato_base::is_keyword;
+use ato_base::{first_char, is_keyword};
 use unicode_ident::{is_xid_continue, is_xid_start};
 
 /// A token of a literal, or a keyword that stands in none.
@@ -19,19 +19,6 @@ pub(crate) enum Token<'a> {
     PlusMinus,
     Minus,
     Keyword,
-}
-
-/// The first character of a text, and what follows.
-#[tactic(auto, using(std::proofs::lemmas::Str::chars_past_char))]
-fn first_char(text: &str) -> Option<(char, &str)>
-    ensures cut { MatchOption result (chars text.now ≡ []) (λ cut. chars text.now ≡ cut.0 ∷ chars cut.1.now) }
-    ensures shorter { MatchOption result (length text.now ≡ 0) (λ cut. length cut.1.now < length text.now) }
-{
-    let mut rest = text.chars();
-    match rest.next() {
-        None => None,
-        Some(first) => Some((first, rest.as_str())),
-    }
 }
 
 fn is_blank(character: char) -> bool
