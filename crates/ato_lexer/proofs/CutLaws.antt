@@ -16,12 +16,12 @@ use Rattle.ato_units.specs.LiteralReading.{past, before, past_number}
 use Rattle.ato_units.proofs.Cutting.{before_seam}
 use Rattle.ato_units.proofs.Fronts.{cut_past, number_cut}
 use Rattle.ato_lexer.specs.Fronts.{Written, begins, three, comment_len, before_quote, before_three, front_mark}
-use Rattle.ato_lexer.specs.Pieces.{Kind, Piece, is_bad, piece, keyword_or_name, word_kind, word_piece, string_or_open, string_piece, mark_or_bad, front_piece, pieces_within, pieces_of}
+use Rattle.ato_lexer.specs.Pieces.{Kind, Piece, is_bad, piece, keyword_or_name, word_kind, word_piece, string_or_open, string_piece, mark_or_bad, front_piece, front_of, pieces_within, pieces_of}
 use Rattle.ato_lexer.specs.Pieces as pieces
 use Rattle.ato_lexer.specs.Spellings.{is_quote, Spells, IsNext, IsCut}
 use Rattle.ato_lexer.specs.Spellings as spellings
 use Rattle.ato_lexer.proofs.CoverLaws.{front_taken}
-use Rattle.ato_lexer.proofs.ReachLaws.{Reaches, front_of, word_good, reach_space, reach_tab, reach_feed, reach_return_feed, reach_comment, reach_name, reach_keyword, reach_number}
+use Rattle.ato_lexer.proofs.ReachLaws.{Reaches, word_good, reach_space, reach_tab, reach_feed, reach_return_feed, reach_comment, reach_name, reach_keyword, reach_number}
 use Rattle.ato_lexer.proofs.StringReach.{begins_is, quote_front, reach_string, reach_triple, two_quotes, three_long, quote_cut, three_cut}
 use Rattle.ato_lexer.proofs.MarkReach.{reach_mark, reach_sign, mark_spelled}
 

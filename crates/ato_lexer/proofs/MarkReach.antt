@@ -10,10 +10,10 @@ use Rattle.ato_base.specs.declared.keywords.Mark.{Mark}
 use Rattle.ato_base.specs.declared.keywords.Mark.TheVariants as marks
 use Rattle.ato_frac.proofs.Digits.{and_true}
 use Rattle.ato_lexer.specs.Fronts.{Written, begins, written, all_marks, front_mark}
-use Rattle.ato_lexer.specs.Pieces.{Kind, Piece, is_bad, piece, mark_or_bad, front_piece}
+use Rattle.ato_lexer.specs.Pieces.{Kind, Piece, is_bad, piece, mark_or_bad, front_piece, front_of}
 use Rattle.ato_lexer.specs.Pieces as pieces
 use Rattle.ato_lexer.specs.Spellings.{Spells, mark, plus_minus}
-use Rattle.ato_lexer.proofs.ReachLaws.{Reaches, front_of}
+use Rattle.ato_lexer.proofs.ReachLaws.{Reaches}
 use Rattle.ato_lexer.proofs.StringReach.{begins_is, begins_yes}
 
 -- a way to write a mark stands in a list

@@ -18,13 +18,8 @@ use Rattle.ato_units.specs.LiteralReading.{past, before, past_number}
 use Rattle.ato_units.proofs.Cutting.{before_seam}
 use Rattle.ato_units.proofs.Fronts.{cut_past, past_all, number_reach}
 use Rattle.ato_lexer.specs.Fronts.{comment_len}
-use Rattle.ato_lexer.specs.Pieces.{Kind, Piece, is_bad, piece, keyword_or_name, word_kind, word_piece, string_or_open, string_piece, mark_or_bad, front_piece}
+use Rattle.ato_lexer.specs.Pieces.{Kind, Piece, is_bad, piece, keyword_or_name, word_kind, word_piece, string_or_open, string_piece, mark_or_bad, front_piece, front_of}
 use Rattle.ato_lexer.specs.Pieces as pieces
-
--- the piece at the front of a text; an empty text has none
-abbrev pub front_of : List ℕ → Piece
-front_of [] = record { kind = pieces.bad_char; text = [] }
-front_of (c ∷ cs) = front_piece c cs
 
 -- a piece is at least as long as a spelling, is of its kind where it is as long, and is no fault
 pub record Reaches (k : Kind) (s : List ℕ) (p : Piece) : Type 0 where

@@ -7,10 +7,10 @@ use Rattle.std.proofs.lemmas.Bool.Decides.{Decides-eqb}
 use Rattle.std.proofs.lemmas.Slice.Eq.{starts_is}
 use Rattle.ato_frac.proofs.Digits.{and_true}
 use Rattle.ato_lexer.specs.Fronts.{begins, three, before_quote, before_three}
-use Rattle.ato_lexer.specs.Pieces.{Kind, Piece, is_bad, piece, string_or_open, string_piece, front_piece}
+use Rattle.ato_lexer.specs.Pieces.{Kind, Piece, is_bad, piece, string_or_open, string_piece, front_piece, front_of}
 use Rattle.ato_lexer.specs.Pieces as pieces
 use Rattle.ato_lexer.specs.Spellings.{is_quote}
-use Rattle.ato_lexer.proofs.ReachLaws.{Reaches, reach_take, front_of}
+use Rattle.ato_lexer.proofs.ReachLaws.{Reaches, reach_take}
 
 -- a quote begins a string, or a fault
 pub quote_front : (q : ℕ) (cs : List ℕ) → is_quote q ≡ true → front_piece q cs ≡ string_piece q (q ∷ cs)

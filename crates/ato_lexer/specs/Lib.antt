@@ -2,6 +2,8 @@ pub mod Fronts
 pub mod Layout
 pub mod Lines
 pub mod Pieces
+pub mod Reading
+pub mod Shapes
 pub mod Spellings
 pub mod Tokens
 pub mod WideNumbers

@@ -80,6 +80,11 @@ front_piece c cs =
     else (if starts_name c then word_piece (before (c ∷ cs) (past is_xid_continue cs))
     else mark_or_bad (c ∷ cs) (front_mark (c ∷ cs))))))))
 
+-- the same of any text: an empty one has no piece in front, which counts as a bad one
+abbrev pub front_of : List ℕ → Piece
+front_of [] = record { kind = bad_char; text = [] }
+front_of (c ∷ cs) = front_piece c cs
+
 -- the pieces of a text from left to right, so many at most
 unfoldable pub pieces_within : ℕ → List ℕ → List Piece
 pieces_within zero text = []

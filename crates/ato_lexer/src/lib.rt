@@ -3,12 +3,14 @@
 //! `AreTokens` of specs/Tokens.antt says which tokens the bytes of a file have, and `IsRefused` which
 //! fault stands where they have none. A text is cut into pieces (specs/Pieces.antt), the pieces between
 //! line ends are its logical lines (specs/Lines.antt), and what stands before and behind these follows
-//! from the list of their depths (specs/Layout.antt). For now the crate has these definitions and the
-//! laws about them: a file has one list of tokens or one fault, and never both; each piece is the longest
-//! possible (specs/Spellings.antt).
+//! from the list of their depths (specs/Layout.antt). The laws about these definitions are contracts of
+//! functions without a body: a file has one list of tokens or one fault, and never both; each piece is the
+//! longest possible (specs/Spellings.antt). Of the code `front` is there, which cuts the piece in front of
+//! a text.
 #![tactic(auto)]
 
 mod laws;
+mod pieces;
 
 pub use laws::{
     bad_char_begins_nothing, has_one, items_are_in_order, levels_are_closed, never_both, one_fault,

@@ -32,4 +32,5 @@ pub use laws::{one_answer, one_literal, one_quantity, one_reading};
 pub use literals::read_quantity;
 pub use quantities::{Form, Part, Quantity, QuantityFault, combine};
 pub use table::UnitTable;
+pub use tokens::{before, past_number, past_word};
 pub use units::{Unit, UnknownUnit, read_dim, read_unit};

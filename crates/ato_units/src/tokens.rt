@@ -69,7 +69,7 @@ fn past_digits(text: &str) -> &str
 
 /// What follows the characters at the front that may continue a name.
 #[tactic(auto, using(crate::proofs::Cutting::past_goes, crate::proofs::Cutting::past_stops, crate::proofs::Cutting::past_none))]
-fn past_word(text: &str) -> &str
+pub fn past_word(text: &str) -> &str
     ensures { chars result.now ≡ past is_xid_continue (chars text.now) }
 {
     let mut rest = text;
@@ -142,14 +142,14 @@ fn past_exponent(text: &str) -> &str
 
 /// What follows the number at the front, the longest.
 #[tactic(auto, unfolding(crate::specs::LiteralReading::past_number))]
-fn past_number(text: &str) -> &str
+pub fn past_number(text: &str) -> &str
     ensures { chars result.now ≡ past_number (chars text.now) }
 {
     past_exponent(past_fraction(past_digits(text)))
 }
 
 /// The front of a text, before what follows it.
-fn before<'a>(text: &'a str, rest: &str) -> &'a str
+pub fn before<'a>(text: &'a str, rest: &str) -> &'a str
     requires { HasEnd (chars text.now) (chars rest.now) }
     ensures { chars result.now ≡ before (chars text.now) (chars rest.now) }
 {
