@@ -6,6 +6,7 @@ mod KeywordLemmas
 mod LevelLaws
 mod LineRows
 mod MarkReach
+mod NumberLemmas
 mod OrderLaws
 mod ReachLaws
 mod ReadingLaws

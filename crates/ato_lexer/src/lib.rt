@@ -10,6 +10,7 @@
 #![tactic(auto)]
 
 mod laws;
+mod numbers;
 mod pieces;
 
 pub use laws::{
