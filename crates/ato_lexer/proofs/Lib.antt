@@ -4,10 +4,12 @@ mod CutLaws
 mod FaultRows
 mod KeywordLemmas
 mod LevelLaws
+pub mod LevelPuts
 mod LineRows
 mod MarkReach
 mod NumberLemmas
 mod OrderLaws
+pub mod PutLaws
 mod ReachLaws
 mod ReadingLaws
 pub mod ReadingLemmas
@@ -15,5 +17,6 @@ mod SliceLaws
 mod StringReach
 pub mod TokenLaws
 mod TokenRows
+pub mod WalkLaws
 pub mod WideLaws
 mod WideRows

@@ -2,8 +2,10 @@ pub mod Fronts
 pub mod Layout
 pub mod Lines
 pub mod Pieces
+pub mod Puts
 pub mod Reading
 pub mod Shapes
 pub mod Spellings
 pub mod Tokens
+pub mod Walks
 pub mod WideNumbers

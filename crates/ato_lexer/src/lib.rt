@@ -12,6 +12,8 @@
 mod laws;
 mod numbers;
 mod pieces;
+mod putting;
+mod scanning;
 
 pub use laws::{
     bad_char_begins_nothing, has_one, items_are_in_order, levels_are_closed, never_both, one_fault,

@@ -1,0 +1,231 @@
+//! What one piece of a text puts, and where the scan stands behind it.
+ghost use Rattle.std.specs.Prelude.{◌≡◌, ◌∷◌, ◌+◌, ◌*◌, ◌^◌, ◌<◌, ◌≤◌, ◌++◌, [], List, ℕ, false, IfOk, OnOk, IfErr, reverse, length};
+ghost use Rattle.std.specs.List.{fold};
+ghost use Rattle.std.specs.Str.{chars};
+ghost use Rattle.ato_lexer.specs.Layout.{steps, opened, token_item};
+ghost use Rattle.ato_lexer.specs.Lines.{Placed, column_after, is_line_end, is_blank, open_after};
+ghost use Rattle.ato_lexer.specs.Pieces.{is_bad};
+ghost use Rattle.ato_lexer.specs.Puts.{Puts, StopsAt, placed_as, HasQuotes};
+ghost use Rattle.ato_lexer.specs.Shapes.{kind_of_shape};
+ghost use Rattle.ato_lexer.specs.Walks.{put, standing_after, levels_after, HasRoom};
+
+use crate::putting::{begin_line, push, push_piece};
+use crate::pieces::Shape;
+use ato_base::{FileId, List, Mark, NameTable, Refusal, Token, TokenKind, first_char};
+use std::alloc::Global;
+
+/// Where a scan over the pieces of a text stands.
+#[derive(Clone, Copy, Debug)]
+pub(crate) enum Standing {
+    /// Between two lines, behind blanks up to a column.
+    Between(usize),
+    /// In a line, with so many open brackets, whose last token ends at this byte.
+    Within { brackets: usize, last: u32 },
+}
+
+/// Whether a piece ends a line where no bracket is open.
+fn is_line_end(shape: Shape) -> bool
+    ensures { result ≡ is_line_end (kind_of_shape shape) }
+{
+    matches!(&shape, Shape::LineEnd)
+}
+
+/// Whether a piece is no token.
+fn is_blank(shape: Shape) -> bool
+    ensures { result ≡ is_blank (kind_of_shape shape) }
+{
+    match shape {
+        Shape::Blank | Shape::Comment | Shape::LineEnd => true,
+        _ => false,
+    }
+}
+
+/// How many brackets are open behind a piece.
+fn open_after(shape: Shape, brackets: usize) -> usize
+    requires { brackets + 1 < 2 ^ 64 }
+    ensures value { result ≡ open_after (kind_of_shape shape) brackets }
+    ensures bound { result ≤ brackets + 1 }
+{
+    match shape {
+        Shape::Mark(mark) => match mark {
+            Mark::LeftParenthesis | Mark::LeftBracket => brackets + 1,
+            Mark::RightParenthesis | Mark::RightBracket => brackets.saturating_sub(1),
+            _ => brackets,
+        },
+        _ => brackets,
+    }
+}
+
+/// The column behind a character: a tab goes to the next multiple of 8, and U+FEFF takes none.
+fn column_after(column: usize, next: char) -> usize
+    requires { column + 8 < 2 ^ 64 }
+    ensures value { result ≡ column_after column next }
+    ensures bound { result ≤ column + 8 }
+{
+    if next == '\t' {
+        (column / 8 + 1) * 8
+    } else if next == '\u{FEFF}' {
+        column
+    } else {
+        column + 1
+    }
+}
+
+/// The column behind a text that begins at a column.
+fn column_behind(column: usize, text: &str) -> usize
+    requires { column + 8 * length text.now < 2 ^ 64 }
+    ensures value { result ≡ fold column_after column (chars text.now) }
+    ensures bound { result ≤ column + 8 * length text.now }
+{
+    let mut behind = column;
+    let mut rest = text;
+    'chars: while let Some((next, after)) = first_char(rest) {
+        behind = column_after(behind, next);
+        rest = after;
+    }
+    behind
+}
+
+/// Where a scan between two lines stands behind a piece.
+fn behind_between(column: usize, shape: Shape, text: &str, start: u32, end: u32) -> Standing
+    requires room { column ≤ 8 * start }
+    requires bytes { start + length text.now ≡ end }
+    requires some { 0 < length text.now }
+    ensures value { result ≡ standing_after (Standing.Between column) (placed_as shape text.now start end) }
+    ensures room { HasRoom result end }
+{
+    if is_line_end(shape) {
+        Standing::Between(0)
+    } else if is_blank(shape) {
+        Standing::Between(column_behind(column, text))
+    } else {
+        Standing::Within {
+            brackets: open_after(shape, 0),
+            last: end,
+        }
+    }
+}
+
+/// Where a scan in a line stands behind a piece.
+fn behind_within(
+    brackets: usize,
+    last: u32,
+    shape: Shape,
+    text: &str,
+    start: u32,
+    end: u32,
+) -> Standing
+    requires room { brackets ≤ start }
+    requires bytes { start + length text.now ≡ end }
+    requires some { 0 < length text.now }
+    ensures value { result ≡ standing_after (Standing.Within brackets last) (placed_as shape text.now start end) }
+    ensures room { HasRoom result end }
+{
+    if is_line_end(shape) && brackets == 0 {
+        Standing::Between(0)
+    } else if is_blank(shape) {
+        Standing::Within { brackets, last }
+    } else {
+        Standing::Within {
+            brackets: open_after(shape, brackets),
+            last: end,
+        }
+    }
+}
+
+/// Where a scan stands behind a piece.
+fn standing_after(standing: Standing, shape: Shape, text: &str, start: u32, end: u32) -> Standing
+    requires room { HasRoom standing start }
+    requires bytes { start + length text.now ≡ end }
+    requires some { 0 < length text.now }
+    ensures value { result ≡ standing_after standing (placed_as shape text.now start end) }
+    ensures room { HasRoom result end }
+{
+    match standing {
+        Standing::Between(column) => behind_between(column, shape, text, start, end),
+        Standing::Within { brackets, last } => {
+            behind_within(brackets, last, shape, text, start, end)
+        }
+    }
+}
+
+/// Puts the steps to a line before its first token, and the token.
+fn put_first(
+    alloc: Global,
+    levels: &mut Vec<usize>,
+    tokens: &mut List<Token>,
+    names: &mut NameTable,
+    file: FileId,
+    column: usize,
+    shape: Shape,
+    text: &str,
+    start: u32,
+    end: u32,
+) -> Result<(), Refusal>
+    requires token { is_blank (kind_of_shape shape) ≡ false }
+    requires good { is_bad (kind_of_shape shape) ≡ false }
+    requires quotes { HasQuotes shape start end }
+    ensures puts { OnOk result (Puts file names.old names.new tokens.old tokens.new (put (reverse levels.old.items) (Standing.Between column) (placed_as shape text.now start end))) }
+    ensures levels { OnOk result (reverse levels.new.items ≡ opened column (reverse levels.old.items)) }
+    ensures stops { IfErr result (StopsAt file (put (reverse levels.old.items) (Standing.Between column) (placed_as shape text.now start end))) }
+{
+    begin_line(alloc, levels, tokens, file, column, start, end)?;
+    push_piece(alloc, tokens, names, file, shape, text, start, end)?;
+    Ok(())
+}
+
+/// Puts what a piece between two lines is: with a token a line begins.
+fn put_between(
+    alloc: Global,
+    levels: &mut Vec<usize>,
+    tokens: &mut List<Token>,
+    names: &mut NameTable,
+    file: FileId,
+    column: usize,
+    shape: Shape,
+    text: &str,
+    start: u32,
+    end: u32,
+) -> Result<(), Refusal>
+    requires good { is_bad (kind_of_shape shape) ≡ false }
+    requires quotes { HasQuotes shape start end }
+    ensures puts { OnOk result (Puts file names.old names.new tokens.old tokens.new (put (reverse levels.old.items) (Standing.Between column) (placed_as shape text.now start end))) }
+    ensures levels { OnOk result (reverse levels.new.items ≡ levels_after (reverse levels.old.items) (Standing.Between column) (placed_as shape text.now start end)) }
+    ensures stops { IfErr result (StopsAt file (put (reverse levels.old.items) (Standing.Between column) (placed_as shape text.now start end))) }
+{
+    if is_blank(shape) {
+        return Ok(());
+    }
+    put_first(
+        alloc, levels, tokens, names, file, column, shape, text, start, end,
+    )
+}
+
+/// Puts what a piece in a line is: NEWLINE where the line ends, or a token.
+fn put_within(
+    alloc: Global,
+    tokens: &mut List<Token>,
+    names: &mut NameTable,
+    file: FileId,
+    brackets: usize,
+    last: u32,
+    shape: Shape,
+    text: &str,
+    start: u32,
+    end: u32,
+) -> Result<(), Refusal>
+    requires good { is_bad (kind_of_shape shape) ≡ false }
+    requires quotes { HasQuotes shape start end }
+    ensures puts { OnOk result ((levels : List ℕ) → Puts file names.old names.new tokens.old tokens.new (put levels (Standing.Within brackets last) (placed_as shape text.now start end))) }
+    ensures stops { IfErr result (λ refusal. (levels : List ℕ) → StopsAt file (put levels (Standing.Within brackets last) (placed_as shape text.now start end)) refusal) }
+{
+    if is_line_end(shape) && brackets == 0 {
+        push(tokens, file, TokenKind::Newline, last, last)?;
+        return Ok(());
+    }
+    if is_blank(shape) {
+        return Ok(());
+    }
+    push_piece(alloc, tokens, names, file, shape, text, start, end)?;
+    Ok(())
+}
