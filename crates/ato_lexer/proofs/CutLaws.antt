@@ -218,7 +218,7 @@ longest_cut text good = cut_within (length text) text (omega arith) good
 
 -- what comes next is the first piece
 
-front_of_spelled : (text : List ℕ) → is_bad (front_of text).kind ≡ false → Spells (front_of text).kind (front_of text).text
+pub front_of_spelled : (text : List ℕ) → is_bad (front_of text).kind ≡ false → Spells (front_of text).kind (front_of text).text
 front_of_spelled [] h = absurd (cc)
 front_of_spelled (c ∷ cs) h = front_spelled c cs h
 

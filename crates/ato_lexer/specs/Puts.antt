@@ -1,5 +1,5 @@
 -- What putting items does to tokens and to the table of names, and why it stops.
-use Rattle.std.specs.Prelude.{◌≡◌, ℕ, ◌+◌, ◌-◌, ◌≤◌, List, ◌++◌, Option, Some, None}
+use Rattle.std.specs.Prelude.{◌≡◌, ℕ, ◌+◌, ◌-◌, ◌≤◌, ◌<◌, List, ◌∷◌, ◌++◌, length, Option, Some, None}
 use Rattle.std.specs.List.{filter_map}
 use Rattle.std.specs.Str.{chars}
 use Rattle.ato_base.specs.NameTable.{with_names, Extends}
@@ -8,7 +8,8 @@ use Rattle.ato_base.specs.declared.faults.Refusal.TheVariants as refusals
 use Rattle.ato_base.specs.declared.places.FileId.{FileId}
 use Rattle.ato_base.specs.declared.tokens.Token.{Token}
 use Rattle.ato_lexer.specs.Layout.{Item}
-use Rattle.ato_lexer.specs.Lines.{Placed}
+use Rattle.ato_lexer.specs.Lines.{Placed, bytes_len}
+use Rattle.ato_lexer.specs.Pieces.{pieces_of}
 use Rattle.ato_lexer.specs.Shapes.{kind_of_shape}
 use Rattle.ato_lexer.specs.Tokens.{item_token, item_name, first_of}
 use Rattle.ato_lexer.specs.declared.pieces.Shape.{Shape}
@@ -34,3 +35,11 @@ placed_as shape text start end = record { piece = record { kind = kind_of_shape 
 abbrev pub HasQuotes : Shape → ℕ → ℕ → Type 0
 HasQuotes (shapes.Str quotes) start end = start + quotes ≤ end - quotes
 HasQuotes shape start end = Unit {0}
+
+-- The piece in front of a text has this shape and is spelled by these bytes, and this follows it.
+pub record IsFirst (text : List ℕ) (shape : Shape) (front rest : List ℕ) : Type 0 where
+  pub pieces : pieces_of (chars text) ≡ record { kind = kind_of_shape shape; text = chars front } ∷ pieces_of (chars rest)
+  pub size : bytes_len (chars front) ≡ length front
+  pub bytes : length front + length rest ≡ length text
+  pub some : 0 < length front
+  pub quotes : HasQuotes shape 0 (length front)

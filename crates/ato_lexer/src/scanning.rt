@@ -1,17 +1,18 @@
 //! What one piece of a text puts, and where the scan stands behind it.
-ghost use Rattle.std.specs.Prelude.{◌≡◌, ◌∷◌, ◌+◌, ◌*◌, ◌^◌, ◌<◌, ◌≤◌, ◌++◌, [], List, ℕ, false, IfOk, OnOk, IfErr, reverse, length};
+ghost use Rattle.std.specs.Prelude.{◌≡◌, ◌∷◌, ◌+◌, ◌*◌, ◌^◌, ◌<◌, ◌≤◌, ◌++◌, [], List, ℕ, false, IfOk, OnOk, IfErr, MatchOption, drop, reverse, length};
 ghost use Rattle.std.specs.List.{fold};
 ghost use Rattle.std.specs.Str.{chars};
 ghost use Rattle.ato_lexer.specs.Layout.{steps, opened, token_item};
 ghost use Rattle.ato_lexer.specs.Lines.{Placed, column_after, is_line_end, is_blank, open_after};
-ghost use Rattle.ato_lexer.specs.Pieces.{is_bad};
-ghost use Rattle.ato_lexer.specs.Puts.{Puts, StopsAt, placed_as, HasQuotes};
+ghost use Rattle.ato_lexer.specs.Pieces.{front_of, is_bad};
+ghost use Rattle.ato_lexer.specs.Puts.{Puts, StopsAt, placed_as, HasQuotes, IsFirst};
 ghost use Rattle.ato_lexer.specs.Shapes.{kind_of_shape};
 ghost use Rattle.ato_lexer.specs.Walks.{put, standing_after, levels_after, HasRoom};
 
 use crate::putting::{begin_line, push, push_piece};
-use crate::pieces::Shape;
+use crate::pieces::{Shape, front};
 use ato_base::{FileId, List, Mark, NameTable, Refusal, Token, TokenKind, first_char};
+use ato_units::before;
 use std::alloc::Global;
 
 /// Where a scan over the pieces of a text stands.
@@ -228,4 +229,22 @@ fn put_within(
     }
     push_piece(alloc, tokens, names, file, shape, text, start, end)?;
     Ok(())
+}
+
+/// How the piece in front of a text is spelled, which is followed by `rest`.
+fn spelling<'a>(text: &'a str, shape: Shape, rest: &str) -> &'a str
+    requires kind { kind_of_shape shape ≡ (front_of (chars text.now)).kind }
+    requires behind { chars rest.now ≡ drop (length (front_of (chars text.now)).text) (chars text.now) }
+    requires shorter { length rest.now < length text.now }
+    ensures { IsFirst text.now shape result.now rest.now }
+{
+    before(text, rest)
+}
+
+/// The piece in front of a text, how it is spelled, and what follows it.
+fn next_piece(text: &str) -> Option<(Shape, &str, &str)>
+    ensures { MatchOption result (text.now ≡ []) (λ cut. IsFirst text.now cut.0 cut.1.now cut.2.now) }
+{
+    let (shape, rest) = front(text)?;
+    Some((shape, spelling(text, shape, rest), rest))
 }
