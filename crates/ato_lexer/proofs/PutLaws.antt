@@ -100,3 +100,13 @@ stops_past file is js refusals.NoMemory sound h = h
 -- what the first token of a line puts
 pub put_first : (levels : List ℕ) (column : ℕ) (p : Placed) → is_blank p.piece.kind ≡ false → steps column p levels ++ token_item p ∷ [] ≡ put levels (Between column) p
 put_first levels column p h = sym (ap (λ b. if b then [] else steps column p levels ++ token_item p ∷ []) h)
+
+-- A table that stays or grows keeps its names.
+pub table_same : (names : List (List ℕ)) → Extends names names
+table_same names = ([], sym (append-nil names))
+
+pub table_kept : (old new : List (List ℕ)) → new ≡ old → Extends old new
+table_kept old new h = ([], h ∙ sym (append-nil old))
+
+pub table_grows : (old new : List (List ℕ)) (text : List ℕ) → new ≡ with_name old text → Extends old new
+table_grows old new text h = subst (λ l. Extends old l) (sym h) (all_extend old (text ∷ []))

@@ -9,12 +9,15 @@ use Rattle.ato_lexer.specs.Tokens.{bad_item, bad_kind}
 use Rattle.ato_lexer.specs.declared.scanning.Standing.{Standing}
 use Rattle.ato_lexer.specs.declared.scanning.Standing.TheVariants.{Between, Within}
 
--- what a piece puts that is no fault by its kind: the steps to a line before its first token, each token, and NEWLINE where a
--- line ends
+-- what a piece in a line puts: a token, or NEWLINE where the line ends
+abbrev pub put_within : ℕ → ℕ → Placed → List Item
+put_within brackets last p =
+    if is_line_end p.piece.kind && (brackets == 0) then newline last ∷ [] else (if is_blank p.piece.kind then [] else token_item p ∷ [])
+
+-- what a piece puts that is no fault by its kind: between two lines a token begins one, with the steps to it
 abbrev pub put : List ℕ → Standing → Placed → List Item
 put levels (Between column) p = if is_blank p.piece.kind then [] else steps column p levels ++ token_item p ∷ []
-put levels (Within brackets last) p =
-    if is_line_end p.piece.kind && (brackets == 0) then newline last ∷ [] else (if is_blank p.piece.kind then [] else token_item p ∷ [])
+put levels (Within brackets last) p = put_within brackets last p
 
 -- where the scan stands behind a piece
 abbrev pub standing_after : Standing → Placed → Standing

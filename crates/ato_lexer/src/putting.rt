@@ -3,6 +3,7 @@ ghost use Rattle.std.specs.Prelude.{◌≡◌, ◌∷◌, ◌++◌, ◌+◌, ◌
 ghost use Rattle.std.specs.Char.{is_ascii_digit};
 ghost use Rattle.std.specs.List.{repeat, list_all, list_any};
 ghost use Rattle.std.specs.Str.{chars};
+ghost use Rattle.ato_base.specs.NameTable.{Extends};
 ghost use Rattle.ato_base.specs.declared.tokens.TokenKind.TheVariants as kinds;
 ghost use Rattle.ato_lexer.specs.Layout.{top, left, kept, opened, is_open, steps, token_item};
 ghost use Rattle.ato_lexer.specs.Lines.{Placed, is_token};
@@ -143,6 +144,7 @@ fn number_kind(file: FileId, text: &str, start: u32, end: u32) -> TokenKind
 }
 
 /// Puts a name into the table, and its token behind the others.
+#[tactic(auto, using(crate::proofs::PutLaws::table_kept, crate::proofs::PutLaws::table_grows))]
 fn push_name(
     tokens: &mut List<Token>,
     names: &mut NameTable,
@@ -151,7 +153,8 @@ fn push_name(
     start: u32,
     end: u32,
 ) -> Result<(), NoMemory>
-    ensures { OnOk result (Puts file names.old names.new tokens.old tokens.new (token_item (placed_as Shape.Name text.now start end) ∷ [])) }
+    ensures puts { OnOk result (Puts file names.old names.new tokens.old tokens.new (token_item (placed_as Shape.Name text.now start end) ∷ [])) }
+    ensures names { Extends names.old names.new }
 {
     let name = names.intern(text)?;
     push(tokens, file, TokenKind::Name(name), start, end)?;
@@ -178,6 +181,7 @@ fn push_number(
 }
 
 /// Puts the token that a piece is, with its name where it is one.
+#[tactic(auto, using(crate::proofs::PutLaws::table_same))]
 pub(crate) fn push_piece(
     alloc: Global,
     tokens: &mut List<Token>,
@@ -193,6 +197,7 @@ pub(crate) fn push_piece(
     requires quotes { HasQuotes shape start end }
     ensures puts { OnOk result (Puts file names.old names.new tokens.old tokens.new (token_item (placed_as shape text.now start end) ∷ [])) }
     ensures stops { IfErr result (StopsAt file (token_item (placed_as shape text.now start end) ∷ [])) }
+    ensures names { Extends names.old names.new }
 {
     match shape {
         Shape::Name => {

@@ -2,12 +2,13 @@
 ghost use Rattle.std.specs.Prelude.{◌≡◌, ◌∷◌, ◌+◌, ◌*◌, ◌^◌, ◌<◌, ◌≤◌, ◌++◌, [], List, ℕ, false, IfOk, OnOk, IfErr, MatchOption, drop, reverse, length};
 ghost use Rattle.std.specs.List.{fold};
 ghost use Rattle.std.specs.Str.{chars};
+ghost use Rattle.ato_base.specs.NameTable.{Extends};
 ghost use Rattle.ato_lexer.specs.Layout.{steps, opened, token_item};
 ghost use Rattle.ato_lexer.specs.Lines.{Placed, column_after, is_line_end, is_blank, open_after};
 ghost use Rattle.ato_lexer.specs.Pieces.{front_of, is_bad};
 ghost use Rattle.ato_lexer.specs.Puts.{Puts, StopsAt, placed_as, HasQuotes, IsFirst};
 ghost use Rattle.ato_lexer.specs.Shapes.{kind_of_shape};
-ghost use Rattle.ato_lexer.specs.Walks.{put, standing_after, levels_after, HasRoom};
+ghost use Rattle.ato_lexer.specs.Walks.{put, put_within, standing_after, levels_after, HasRoom};
 
 use crate::putting::{begin_line, push, push_piece};
 use crate::pieces::{Shape, front};
@@ -151,6 +152,7 @@ fn standing_after(standing: Standing, shape: Shape, text: &str, start: u32, end:
 }
 
 /// Puts the steps to a line before its first token, and the token.
+#[tactic(auto, using(crate::proofs::PutLaws::table_same))]
 fn put_first(
     alloc: Global,
     levels: &mut Vec<usize>,
@@ -169,6 +171,7 @@ fn put_first(
     ensures puts { OnOk result (Puts file names.old names.new tokens.old tokens.new (put (reverse levels.old.items) (Standing.Between column) (placed_as shape text.now start end))) }
     ensures levels { OnOk result (reverse levels.new.items ≡ opened column (reverse levels.old.items)) }
     ensures stops { IfErr result (StopsAt file (put (reverse levels.old.items) (Standing.Between column) (placed_as shape text.now start end))) }
+    ensures names { Extends names.old names.new }
 {
     begin_line(alloc, levels, tokens, file, column, start, end)?;
     push_piece(alloc, tokens, names, file, shape, text, start, end)?;
@@ -176,6 +179,7 @@ fn put_first(
 }
 
 /// Puts what a piece between two lines is: with a token a line begins.
+#[tactic(auto, using(crate::proofs::PutLaws::table_same))]
 fn put_between(
     alloc: Global,
     levels: &mut Vec<usize>,
@@ -193,6 +197,7 @@ fn put_between(
     ensures puts { OnOk result (Puts file names.old names.new tokens.old tokens.new (put (reverse levels.old.items) (Standing.Between column) (placed_as shape text.now start end))) }
     ensures levels { OnOk result (reverse levels.new.items ≡ levels_after (reverse levels.old.items) (Standing.Between column) (placed_as shape text.now start end)) }
     ensures stops { IfErr result (StopsAt file (put (reverse levels.old.items) (Standing.Between column) (placed_as shape text.now start end))) }
+    ensures names { Extends names.old names.new }
 {
     if is_blank(shape) {
         return Ok(());
@@ -203,6 +208,7 @@ fn put_between(
 }
 
 /// Puts what a piece in a line is: NEWLINE where the line ends, or a token.
+#[tactic(auto, using(crate::proofs::PutLaws::table_same))]
 fn put_within(
     alloc: Global,
     tokens: &mut List<Token>,
@@ -217,8 +223,9 @@ fn put_within(
 ) -> Result<(), Refusal>
     requires good { is_bad (kind_of_shape shape) ≡ false }
     requires quotes { HasQuotes shape start end }
-    ensures puts { OnOk result ((levels : List ℕ) → Puts file names.old names.new tokens.old tokens.new (put levels (Standing.Within brackets last) (placed_as shape text.now start end))) }
-    ensures stops { IfErr result (λ refusal. (levels : List ℕ) → StopsAt file (put levels (Standing.Within brackets last) (placed_as shape text.now start end)) refusal) }
+    ensures puts { OnOk result (Puts file names.old names.new tokens.old tokens.new (put_within brackets last (placed_as shape text.now start end))) }
+    ensures stops { IfErr result (StopsAt file (put_within brackets last (placed_as shape text.now start end))) }
+    ensures names { Extends names.old names.new }
 {
     if is_line_end(shape) && brackets == 0 {
         push(tokens, file, TokenKind::Newline, last, last)?;
@@ -247,4 +254,34 @@ fn next_piece(text: &str) -> Option<(Shape, &str, &str)>
 {
     let (shape, rest) = front(text)?;
     Some((shape, spelling(text, shape, rest), rest))
+}
+
+/// Puts what a piece is that is no fault by its kind.
+fn put_piece(
+    alloc: Global,
+    levels: &mut Vec<usize>,
+    tokens: &mut List<Token>,
+    names: &mut NameTable,
+    file: FileId,
+    standing: Standing,
+    shape: Shape,
+    text: &str,
+    start: u32,
+    end: u32,
+) -> Result<(), Refusal>
+    requires good { is_bad (kind_of_shape shape) ≡ false }
+    requires quotes { HasQuotes shape start end }
+    ensures puts { OnOk result (Puts file names.old names.new tokens.old tokens.new (put (reverse levels.old.items) standing (placed_as shape text.now start end))) }
+    ensures levels { OnOk result (reverse levels.new.items ≡ levels_after (reverse levels.old.items) standing (placed_as shape text.now start end)) }
+    ensures stops { IfErr result (StopsAt file (put (reverse levels.old.items) standing (placed_as shape text.now start end))) }
+    ensures names { Extends names.old names.new }
+{
+    match standing {
+        Standing::Between(column) => put_between(
+            alloc, levels, tokens, names, file, column, shape, text, start, end,
+        ),
+        Standing::Within { brackets, last } => put_within(
+            alloc, tokens, names, file, brackets, last, shape, text, start, end,
+        ),
+    }
 }
