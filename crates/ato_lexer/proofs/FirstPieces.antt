@@ -121,6 +121,7 @@ first_of_chars text front rest shape (c ∷ cs) utf8 front_utf8 rest_utf8 is kin
       size = size_of front front_utf8;
       bytes = bytes;
       some = omega (arith, bytes, shorter);
+      utf8 = rest_utf8;
       quotes = quotes_fit shape (length p.text) (length front) (omega (arith, chars_fit p.text, size_of front front_utf8, ap bytes_len front_is))
           (subst (λ k. HasRoomFor k (length p.text)) (sym kind) (front_room c cs (is_bad p.kind) refl));
     }

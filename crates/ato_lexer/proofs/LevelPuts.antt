@@ -1,5 +1,5 @@
 -- Levels that are left one after another.
-use Rattle.std.proofs.Common.{◌≡◌, ℕ, zero, suc, ◌+◌, ◌<◌, ◌≤◌, Bool, true, false, cond, List, [], ◌∷◌, ◌++◌, length, drop, reverse, refl, sym, ap, ◌∙◌, subst, eq-eqb, arith}
+use Rattle.std.proofs.Common.{◌≡◌, ℕ, zero, suc, ◌+◌, ◌<◌, ◌≤◌, Bool, true, false, cond, List, [], ◌∷◌, ◌++◌, length, length-append, drop, reverse, refl, sym, ap, ◌∙◌, subst, eq-eqb, arith}
 use Rattle.std.proofs.lemmas.Bool.{lt-ltb, le-leb}
 use Rattle.std.proofs.lemmas.List.{reverse-append}
 use Rattle.std.specs.Prelude.{Option, Some, None, IsSome, nat_eq, nat_lt, ◌==◌, ◌||◌, if◌then◌else◌}
@@ -11,7 +11,8 @@ use Rattle.ato_base.specs.declared.faults.FaultKind.TheVariants as faults
 use Rattle.ato_base.specs.declared.places.FileId.{FileId}
 use Rattle.ato_base.specs.declared.tokens.Token.{Token}
 use Rattle.ato_base.specs.declared.tokens.TokenKind.TheVariants as kinds
-use Rattle.ato_lexer.specs.Layout.{top, left, kept, is_open, steps, indent, dedent, fault}
+use Rattle.ato_lexer.specs.Layout.{top, left, kept, is_open, steps, last_items, indent, dedent, end, fault}
+use Rattle.ato_lexer.proofs.PutLaws.{puts_more}
 use Rattle.ato_lexer.specs.Lines.{Placed}
 use Rattle.ato_lexer.specs.Puts.{Puts}
 use Rattle.ato_lexer.specs.Tokens.{token_at, item_token, item_name, first_of}
@@ -112,3 +113,20 @@ dedents_put file names before after n at is = record {
   names = ap (with_names names) (sym (dedents-names n at));
   tokens = λ later extends. is ∙ ap (λ l. before ++ l) (sym (dedents-tokens file later n at));
 }
+
+length-turned : (levels : List ℕ) → length (reverse levels) ≡ length levels
+length-turned [] = refl
+length-turned (level ∷ levels) =
+    ap length (reverse-append (level ∷ []) levels) ∙ length-append (reverse levels) (level ∷ []) ∙ ap (λ n. n + 1) (length-turned levels) ∙ one (length levels)
+  where
+    one : (n : ℕ) → n + 1 ≡ suc n
+    one n = omega arith
+
+-- The end of a file was put.
+pub end_put : (file : FileId) (names : List (List ℕ)) (levels : List ℕ) (size : ℕ) (before mid after : List Token)
+    → mid ≡ before ++ repeat (length levels) (token_at file size size kinds.Dedent ∷ []) → after ≡ mid ++ token_at file size size kinds.End ∷ []
+    → Puts file names names before after (last_items (reverse levels) size [])
+end_put file names levels size before mid after dedents is =
+    subst (λ n. Puts file names names before after (repeat n (dedent size ∷ []) ++ end size ∷ [])) (sym (length-turned levels))
+    (puts_more file names names names before mid after (repeat (length levels) (dedent size ∷ [])) (end size ∷ []) (dedents_put file names before mid (length levels) size dedents)
+    (record { sound = refl; names = refl; tokens = λ later extends. is }))

@@ -14,6 +14,7 @@ pub mod PutLaws
 mod ReachLaws
 mod ReadingLaws
 pub mod ReadingLemmas
+pub mod ScanLaws
 mod SliceLaws
 mod StringReach
 pub mod TokenLaws

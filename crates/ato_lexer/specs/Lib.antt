@@ -4,6 +4,7 @@ pub mod Lines
 pub mod Pieces
 pub mod Puts
 pub mod Reading
+pub mod Scans
 pub mod Shapes
 pub mod Spellings
 pub mod Tokens

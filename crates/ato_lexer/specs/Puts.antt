@@ -1,5 +1,5 @@
 -- What putting items does to tokens and to the table of names, and why it stops.
-use Rattle.std.specs.Prelude.{◌≡◌, ℕ, ◌+◌, ◌-◌, ◌≤◌, ◌<◌, List, ◌∷◌, ◌++◌, length, Option, Some, None}
+use Rattle.std.specs.Prelude.{◌≡◌, ℕ, ◌+◌, ◌-◌, ◌≤◌, ◌<◌, List, ◌∷◌, ◌++◌, length, IsUtf8, Option, Some, None}
 use Rattle.std.specs.List.{filter_map}
 use Rattle.std.specs.Str.{chars}
 use Rattle.ato_base.specs.NameTable.{with_names, Extends}
@@ -42,4 +42,5 @@ pub record IsFirst (text : List ℕ) (shape : Shape) (front rest : List ℕ) : T
   pub size : bytes_len (chars front) ≡ length front
   pub bytes : length front + length rest ≡ length text
   pub some : 0 < length front
+  pub utf8 : IsUtf8 rest
   pub quotes : HasQuotes shape 0 (length front)

@@ -5,7 +5,7 @@ ghost use Rattle.std.specs.List.{repeat, list_all, list_any};
 ghost use Rattle.std.specs.Str.{chars};
 ghost use Rattle.ato_base.specs.NameTable.{Extends};
 ghost use Rattle.ato_base.specs.declared.tokens.TokenKind.TheVariants as kinds;
-ghost use Rattle.ato_lexer.specs.Layout.{top, left, kept, opened, is_open, steps, token_item};
+ghost use Rattle.ato_lexer.specs.Layout.{last_items, top, left, kept, opened, is_open, steps, token_item};
 ghost use Rattle.ato_lexer.specs.Lines.{Placed, is_token};
 ghost use Rattle.ato_lexer.specs.Pieces.{is_bad};
 ghost use Rattle.ato_lexer.specs.Puts.{Puts, StopsAt, placed_as, HasQuotes};
@@ -223,4 +223,33 @@ pub(crate) fn push_piece(
         }
         _ => Ok(()),
     }
+}
+
+/// Puts so many DEDENTs at a byte.
+fn push_dedents(
+    tokens: &mut List<Token>,
+    file: FileId,
+    count: usize,
+    at: u32,
+) -> Result<(), NoMemory>
+    ensures { OnOk result (tokens.new ≡ tokens.old ++ repeat count (token_at file at at kinds.Dedent ∷ [])) }
+{
+    'dedents: for _ in 0..count {
+        push(tokens, file, TokenKind::Dedent, at, at)?;
+    }
+    Ok(())
+}
+
+/// Puts the end of a file of so many bytes: a DEDENT for each open level, and END.
+pub(crate) fn push_end(
+    levels: &[usize],
+    tokens: &mut List<Token>,
+    file: FileId,
+    size: u32,
+) -> Result<(), NoMemory>
+    ensures { OnOk result ((names : List (List ℕ)) → Puts file names names tokens.old tokens.new (last_items (reverse levels.now) size [])) }
+{
+    push_dedents(tokens, file, levels.len(), size)?;
+    push(tokens, file, TokenKind::End, size, size)?;
+    Ok(())
 }

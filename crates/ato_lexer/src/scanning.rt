@@ -3,16 +3,18 @@ ghost use Rattle.std.specs.Prelude.{◌≡◌, ◌∷◌, ◌+◌, ◌*◌, ◌^
 ghost use Rattle.std.specs.List.{fold};
 ghost use Rattle.std.specs.Str.{chars};
 ghost use Rattle.ato_base.specs.NameTable.{Extends};
-ghost use Rattle.ato_lexer.specs.Layout.{steps, opened, token_item};
+ghost use Rattle.ato_lexer.specs.Layout.{last_items, steps, opened, token_item};
 ghost use Rattle.ato_lexer.specs.Lines.{Placed, column_after, is_line_end, is_blank, open_after};
 ghost use Rattle.ato_lexer.specs.Pieces.{front_of, is_bad};
 ghost use Rattle.ato_lexer.specs.Puts.{Puts, StopsAt, placed_as, HasQuotes, IsFirst};
+ghost use Rattle.ato_lexer.specs.Scans.{scanned};
 ghost use Rattle.ato_lexer.specs.Shapes.{kind_of_shape};
-ghost use Rattle.ato_lexer.specs.Walks.{put, put_within, standing_after, levels_after, HasRoom};
+ghost use Rattle.ato_lexer.specs.Tokens.{bad_kind};
+ghost use Rattle.ato_lexer.specs.Walks.{closing, put, put_within, standing_after, levels_after, HasRoom};
 
-use crate::putting::{begin_line, push, push_piece};
+use crate::putting::{begin_line, push, push_end, push_piece, refusal};
 use crate::pieces::{Shape, front};
-use ato_base::{FileId, List, Mark, NameTable, Refusal, Token, TokenKind, first_char};
+use ato_base::{FaultKind, FileId, List, Mark, NameTable, NoMemory, Refusal, Token, TokenKind, first_char};
 use ato_units::before;
 use std::alloc::Global;
 
@@ -284,4 +286,90 @@ fn put_piece(
             alloc, tokens, names, file, brackets, last, shape, text, start, end,
         ),
     }
+}
+
+/// The fault that a piece is by its kind.
+fn bad_kind(shape: Shape) -> Option<FaultKind>
+    ensures { result ≡ bad_kind (kind_of_shape shape) }
+{
+    match shape {
+        Shape::BadChar => Some(FaultKind::BadChar),
+        Shape::OpenString => Some(FaultKind::OpenString),
+        _ => None,
+    }
+}
+
+/// Puts NEWLINE where a line is open.
+fn close_line(
+    tokens: &mut List<Token>,
+    file: FileId,
+    standing: Standing,
+) -> Result<(), NoMemory>
+    ensures { OnOk result ((names : List (List ℕ)) → Puts file names names tokens.old tokens.new (closing standing)) }
+{
+    match standing {
+        Standing::Between(_) => Ok(()),
+        Standing::Within { last, .. } => {
+            push(tokens, file, TokenKind::Newline, last, last)?;
+            Ok(())
+        }
+    }
+}
+
+/// Puts the end of a file of so many bytes: NEWLINE where a line is open, a DEDENT for each open level, and END.
+fn put_end(
+    levels: &[usize],
+    tokens: &mut List<Token>,
+    file: FileId,
+    standing: Standing,
+    size: u32,
+) -> Result<(), NoMemory>
+    ensures { OnOk result ((names : List (List ℕ)) → Puts file names names tokens.old tokens.new (closing standing ++ last_items (reverse levels.now) size [])) }
+{
+    close_line(tokens, file, standing)?;
+    push_end(levels, tokens, file, size)?;
+    Ok(())
+}
+
+/// Puts what the pieces of a text are that begins at a byte, and what stands at its end.
+pub(crate) fn scan(
+    alloc: Global,
+    names: &mut NameTable,
+    file: FileId,
+    text: &str,
+    start: u32,
+) -> Result<List<Token>, Refusal>
+    requires { start + length text.now < 2 ^ 32 }
+    ensures puts { IfOk result (λ tokens. Puts file names.old names.new [] tokens (scanned start text.now)) }
+    ensures stops { IfErr result (StopsAt file (scanned start text.now)) }
+    ensures names { Extends names.old names.new }
+{
+    let mut tokens = List::new(alloc);
+    let mut levels = Vec::new(alloc);
+    let mut standing = Standing::Between(0);
+    let mut rest = text;
+    let mut at = start;
+    'pieces: while let Some((shape, spelled, after)) = next_piece(rest) {
+        let end = at + spelled.len() as u32;
+        if let Some(kind) = bad_kind(shape) {
+            return Err(refusal(alloc, file, kind, at, end));
+        }
+        put_piece(
+            alloc,
+            &mut levels,
+            &mut tokens,
+            names,
+            file,
+            standing,
+            shape,
+            spelled,
+            at,
+            end,
+        )?;
+        standing = standing_after(standing, shape, spelled, at, end);
+        rest = after;
+        at = end;
+    }
+    put_end(levels.as_slice(), &mut tokens, file, standing, at)?;
+    Ok(tokens)
 }
