@@ -46,7 +46,7 @@ first_and_more c cs =
 pub size_of : (text : List ℕ) → IsUtf8 text → bytes_len (chars text) ≡ length text
 size_of text h = sym (bytes_of (chars text)) ∙ ap length (encodes-chars text h)
 
-bytes_append : (xs ys : List ℕ) → bytes_len (xs ++ ys) ≡ bytes_len xs + bytes_len ys
+pub bytes_append : (xs ys : List ℕ) → bytes_len (xs ++ ys) ≡ bytes_len xs + bytes_len ys
 bytes_append xs ys = sum_by-append len_utf8 xs ys
 
 -- a string has room for its quotes

@@ -2,6 +2,7 @@ pub mod Computing
 pub mod CoverLaws
 mod CutLaws
 mod FaultRows
+pub mod FileLaws
 pub mod FirstPieces
 mod KeywordLemmas
 mod LevelLaws

@@ -31,7 +31,7 @@ choose : (text : List ℕ) (b : Bool) (p q : Piece) (x y : Kind × List ℕ) →
 choose text true p q x y f g = f refl
 choose text false p q x y f g = g refl
 
-eq_turned : (a b : ℕ) → (a == b) ≡ (b == a)
+pub eq_turned : (a b : ℕ) → (a == b) ≡ (b == a)
 eq_turned a b = by (a == b) refl (b == a) refl
   where
     by : (x : Bool) → (a == b) ≡ x → (y : Bool) → (b == a) ≡ y → x ≡ y

@@ -10,11 +10,13 @@
 #![tactic(auto)]
 
 mod laws;
+mod lexing;
 mod numbers;
 mod pieces;
 mod putting;
 mod scanning;
 
+pub use lexing::lex;
 pub use laws::{
     bad_char_begins_nothing, has_one, items_are_in_order, levels_are_closed, never_both, one_fault,
     one_list, open_string_has_no_end, pieces_are_longest, pieces_are_slices, pieces_cover,

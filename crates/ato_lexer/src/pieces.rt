@@ -35,7 +35,7 @@ pub(crate) enum Shape {
 }
 
 /// What follows a character, if it stands in front.
-fn past_char(text: &str, wanted: char) -> Option<&str>
+pub(crate) fn past_char(text: &str, wanted: char) -> Option<&str>
     ensures { option_map (λ rest. chars rest.now) result ≡ past_char wanted (chars text.now) }
 {
     match first_char(text) {
