@@ -1,24 +1,21 @@
 -- What stands in a file, as the scan of its text puts it, and what follows for its tokens.
-use Rattle.std.proofs.Common.{◌≡◌, ℕ, ◌+◌, List, [], ◌∷◌, ◌++◌, length, take, drop, eqb-true, refl, sym, ap, ◌∙◌, subst, arith}
-use Rattle.std.specs.Prelude.{Bool, true, false, Option, Some, None, IsUtf8, if◌then◌else◌, ◌==◌, ◌&&◌}
-use Rattle.std.specs.Char.{len_utf8}
+use Rattle.std.proofs.Common.{◌≡◌, ℕ, ◌+◌, List, [], ◌∷◌, length, eqb-true, refl, sym, ap, ◌∙◌, arith}
+use Rattle.std.specs.Prelude.{Bool, true, false, Some, None, IsUtf8, if◌then◌else◌, ◌==◌, ◌&&◌}
 use Rattle.std.specs.Str.{chars, is_utf8}
 use Rattle.std.specs.Str.Lossy.{utf8_valid_len}
 use Rattle.std.proofs.lemmas.Str.{is_utf8-from_IsUtf8, IsUtf8-from_is_utf8}
-use Rattle.ato_base.specs.NameTable.{Extends}
 use Rattle.ato_base.specs.declared.faults.FaultKind.TheVariants as faults
 use Rattle.ato_base.specs.declared.faults.Refusal.{Refusal}
 use Rattle.ato_base.specs.declared.faults.Refusal.TheVariants as refusals
 use Rattle.ato_base.specs.declared.places.FileId.{FileId}
 use Rattle.ato_base.specs.declared.tokens.Token.{Token}
 use Rattle.ato_lexer.specs.Fronts.{begins}
-use Rattle.ato_lexer.specs.Layout.{Item}
-use Rattle.ato_lexer.specs.Lines.{Placed, placed, bytes_len}
+use Rattle.ato_lexer.specs.Lines.{placed, bytes_len}
 use Rattle.ato_lexer.specs.Pieces.{Piece, piece, blank, pieces_of, pieces}
 use Rattle.ato_lexer.specs.Puts.{Puts, StopsAt}
 use Rattle.ato_lexer.specs.Reading.{past_char}
 use Rattle.ato_lexer.specs.Scans.{scanned}
-use Rattle.ato_lexer.specs.Tokens.{AreTokens, IsRefused, items, pieces_in, first_fault, first_of, fault_at}
+use Rattle.ato_lexer.specs.Tokens.{AreTokens, IsRefused, items, first_fault, first_of, fault_at}
 use Rattle.ato_lexer.specs.Walks.{scan}
 use Rattle.ato_lexer.specs.declared.scanning.Standing.TheVariants.{Between}
 use Rattle.ato_lexer.proofs.FirstPieces.{size_of, bytes_append}
@@ -58,9 +55,10 @@ mark_pieces (c ∷ cs) rest h = by (c == 0xFEFF) refl
     by true e =
         let same : Some cs ≡ Some rest = sym (ap (λ d. if d then Some cs else None) e) ∙ h in
         let more : cs ≡ rest = cc in
-        let first : c ≡ 0xFEFF = eqb-true c 0xFEFF e in
-        ( (λ i. first i ∷ more i),
-          ap (λ d. if d then piece blank 1 (c ∷ cs) ∷ pieces_of cs else pieces_of (c ∷ cs)) (begins_so c cs e) ∙ (λ i. record { kind = blank; text = first i ∷ [] } ∷ pieces_of (more i)) )
+        let first : c ≡ 0xFEFF = eqb-true c 0xFEFF e in (
+          (λ i. first i ∷ more i),
+          ap (λ d. if d then piece blank 1 (c ∷ cs) ∷ pieces_of cs else pieces_of (c ∷ cs)) (begins_so c cs e) ∙ (λ i. record { kind = blank; text = first i ∷ [] } ∷ pieces_of (more i)),
+        )
 
 pub no_mark : (text : List ℕ) → past_char 0xFEFF (chars text) ≡ None → items text ≡ scanned 0 text
 no_mark text h =

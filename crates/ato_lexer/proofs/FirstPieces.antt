@@ -1,9 +1,8 @@
 -- The piece in front of a text, and the pieces of what follows it.
-use Rattle.std.proofs.Common.{◌≡◌, ℕ, zero, suc, ◌+◌, ◌-◌, ◌<◌, ◌≤◌, List, [], ◌∷◌, ◌++◌, length, take, drop, refl, sym, ap, ◌∙◌, subst, length-append, length-drop, take-append-drop, arith}
+use Rattle.std.proofs.Common.{◌≡◌, ℕ, zero, suc, ◌+◌, ◌<◌, ◌≤◌, List, [], ◌∷◌, ◌++◌, length, take, drop, refl, sym, ap, ◌∙◌, subst, length-append, length-drop, take-append-drop, arith}
 use Rattle.std.specs.Prelude.{IsUtf8, Bool, true, false}
 use Rattle.std.specs.Char.{len_utf8}
-use Rattle.std.specs.List.{sum_by}
-use Rattle.std.specs.Str.{chars, encode_utf8_all}
+use Rattle.std.specs.Str.{chars}
 use Rattle.std.proofs.lemmas.Str.{encodes-chars, len_utf8_bounds}
 use Rattle.std.proofs.lemmas.List.Sums.{sum_by-append}
 use Rattle.ato_units.specs.LiteralReading.{before}
@@ -112,10 +111,10 @@ first_of_chars text front rest shape [] utf8 front_utf8 rest_utf8 is kind behind
 first_of_chars text front rest shape (c ∷ cs) utf8 front_utf8 rest_utf8 is kind behind cut shorter =
     let p = front_piece c cs in
     let whole : c ∷ cs ≡ p.text ++ chars rest =
-        sym (take-append-drop (length p.text) (c ∷ cs)) ∙ ap (λ xs. xs ++ drop (length p.text) (c ∷ cs)) (front_taken c cs).front ∙ ap (λ xs. p.text ++ xs) (sym behind) in
+    sym (take-append-drop (length p.text) (c ∷ cs)) ∙ ap (λ xs. xs ++ drop (length p.text) (c ∷ cs)) (front_taken c cs).front ∙ ap (λ xs. p.text ++ xs) (sym behind) in
     let front_is : chars front ≡ p.text = cut ∙ before_seam (c ∷ cs) p.text (chars rest) whole in
     let bytes : length front + length rest ≡ length text =
-        omega (arith, size_of front front_utf8, size_of rest rest_utf8, sym (size_of text utf8) ∙ ap bytes_len (is ∙ whole), bytes_append p.text (chars rest), ap bytes_len front_is) in
+    omega (arith, size_of front front_utf8, size_of rest rest_utf8, sym (size_of text utf8) ∙ ap bytes_len (is ∙ whole), bytes_append p.text (chars rest), ap bytes_len front_is) in
     record {
       pieces = ap pieces_of is ∙ first_and_more c cs ∙ (λ i. record { kind = sym kind i; text = sym front_is i } ∷ pieces_of (sym behind i));
       size = size_of front front_utf8;

@@ -1,6 +1,6 @@
 -- Items that are put one after another.
 use Rattle.std.proofs.Common.{◌≡◌, ℕ, List, [], ◌∷◌, ◌++◌, refl, sym, ap, ◌∙◌, subst, append_assoc, append-nil}
-use Rattle.std.specs.Prelude.{Option, Some, None, Bool, false, if◌then◌else◌}
+use Rattle.std.specs.Prelude.{Some, None, false, if◌then◌else◌}
 use Rattle.std.specs.List.{filter_map, cons_option}
 use Rattle.std.proofs.lemmas.List.Elements.{filter_map-append}
 use Rattle.std.specs.Prelude.{IsUtf8}
@@ -83,7 +83,7 @@ puts_name file old new before after text n start stop utf8 table number put = re
   names = table ∙ ap (with_name old) (sym (encodes-chars text utf8));
   tokens = λ later (more, grown).
       let kept : number_of later text ≡ n =
-          ap (λ l. number_of l text) grown ∙ held_number new more text (held_after old new text table) ∙ sym (number_after old new text n table number) in
+      ap (λ l. number_of l text) grown ∙ held_number new more text (held_after old new text table) ∙ sym (number_after old new text n table number) in
       put ∙ ap (λ k. before ++ token_at file start stop (kinds.Name (record { 0 = k })) ∷ []) (sym kept)
       ∙ ap (λ t. before ++ token_at file start stop (kinds.Name (record { 0 = number_of later t })) ∷ []) (sym (encodes-chars text utf8));
 }

@@ -1,6 +1,6 @@
 -- How a scan goes on from piece to piece, and how it ends.
-use Rattle.std.proofs.Common.{◌≡◌, ℕ, ◌+◌, List, [], ◌∷◌, ◌++◌, length, reverse, refl, sym, ap, ◌∙◌, subst, append_assoc, append-nil, arith}
-use Rattle.std.specs.Prelude.{Bool, true, false, Option, Some, None, if◌then◌else◌}
+use Rattle.std.proofs.Common.{◌≡◌, ℕ, ◌+◌, List, [], ◌∷◌, ◌++◌, length, refl, sym, ap, ◌∙◌, subst, append_assoc, arith}
+use Rattle.std.specs.Prelude.{true, false, Some, None, if◌then◌else◌}
 use Rattle.std.specs.Str.{chars}
 use Rattle.std.proofs.lemmas.Str.{chars-nil}
 use Rattle.ato_base.specs.declared.faults.Refusal.{Refusal}
@@ -8,7 +8,7 @@ use Rattle.ato_base.specs.declared.faults.Refusal.TheVariants as refusals
 use Rattle.ato_base.specs.declared.faults.FaultKind.{FaultKind}
 use Rattle.ato_base.specs.declared.places.FileId.{FileId}
 use Rattle.ato_base.specs.declared.tokens.Token.{Token}
-use Rattle.ato_lexer.specs.Layout.{Item, newline, last_items, fault}
+use Rattle.ato_lexer.specs.Layout.{Item, last_items, fault}
 use Rattle.ato_lexer.specs.Lines.{Placed, placed}
 use Rattle.ato_lexer.specs.Pieces.{Kind, is_bad, pieces_within, pieces_of, blank, comment, line_end, name, keyword, number, string, mark, bad_char, open_string}
 use Rattle.ato_lexer.specs.Puts.{Puts, StopsAt, placed_as, IsFirst}

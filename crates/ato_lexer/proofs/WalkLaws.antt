@@ -3,9 +3,9 @@ use Rattle.std.proofs.Common.{◌≡◌, ℕ, Bool, true, false, not, ◌==◌, 
 use Rattle.std.specs.Prelude.{if◌then◌else◌}
 use Rattle.std.specs.List.{filter, flat_map, fold, take_while, onto_first}
 use Rattle.std.proofs.lemmas.List.Sums.{take_while-cons}
-use Rattle.ato_lexer.specs.Pieces.{Kind, Piece, is_bad, blank, comment, line_end, name, keyword, number, string, mark, bad_char, open_string}
+use Rattle.ato_lexer.specs.Pieces.{Kind, is_bad, blank, comment, line_end, name, keyword, number, string, mark, bad_char, open_string}
 use Rattle.ato_lexer.specs.Lines.{Placed, Line, is_line_end, is_blank, is_token, open_after, parted, column_after, line_of, logical_lines}
-use Rattle.ato_lexer.specs.Layout.{Item, newline, steps, opened, token_item, last_end, last_items, line_items, laid_out}
+use Rattle.ato_lexer.specs.Layout.{Item, newline, steps, opened, token_item, last_end, last_items, laid_out}
 use Rattle.ato_lexer.specs.Tokens.{bad_kind, is_good, bad_item, bad_items, pieces_in, items}
 use Rattle.ato_lexer.specs.declared.scanning.Standing.{Standing}
 use Rattle.ato_lexer.specs.declared.scanning.Standing.TheVariants.{Between, Within}

@@ -1,6 +1,6 @@
 -- What stands in a text, as one scan over its pieces puts it, piece by piece. That it is what the logical lines put is a law
 -- (WalkLaws).
-use Rattle.std.specs.Prelude.{ℕ, ◌≤◌, ◌*◌, ◌==◌, ◌&&◌, Bool, if◌then◌else◌, List, [], ◌∷◌, ◌++◌}
+use Rattle.std.specs.Prelude.{ℕ, ◌≤◌, ◌*◌, ◌==◌, ◌&&◌, if◌then◌else◌, List, [], ◌∷◌, ◌++◌}
 use Rattle.std.specs.List.{fold}
 use Rattle.ato_lexer.specs.Pieces.{is_bad}
 use Rattle.ato_lexer.specs.Lines.{Placed, is_line_end, is_blank, open_after, column_after}

@@ -5,8 +5,8 @@
 //! line ends are its logical lines (specs/Lines.antt), and what stands before and behind these follows
 //! from the list of their depths (specs/Layout.antt). The laws about these definitions are contracts of
 //! functions without a body: a file has one list of tokens or one fault, and never both; each piece is the
-//! longest possible (specs/Spellings.antt). Of the code `front` is there, which cuts the piece in front of
-//! a text.
+//! longest possible (specs/Spellings.antt). `lex` scans the pieces one by one with the open levels and
+//! brackets (specs/Walks.antt); that this puts what the logical lines do is proved.
 #![tactic(auto)]
 
 mod laws;
@@ -15,10 +15,12 @@ mod numbers;
 mod pieces;
 mod putting;
 mod scanning;
+#[cfg(test)]
+mod tests;
 
-pub use lexing::lex;
 pub use laws::{
     bad_char_begins_nothing, has_one, items_are_in_order, levels_are_closed, never_both, one_fault,
     one_list, open_string_has_no_end, pieces_are_longest, pieces_are_slices, pieces_cover,
     tokens_are_in_order, tokens_are_pieces, wide_is_refused,
 };
+pub use lexing::lex;

@@ -12,7 +12,7 @@ ghost use Rattle.ato_lexer.specs.Puts.{Puts, StopsAt, placed_as, HasQuotes};
 ghost use Rattle.ato_lexer.specs.Shapes.{kind_of_shape};
 ghost use Rattle.ato_lexer.specs.Tokens.{token_at, fault_at, small_value};
 
-use crate::numbers::{is_wide, is_whole, small_value};
+use crate::numbers::{is_whole, is_wide, small_value};
 use crate::pieces::Shape;
 use ato_base::{
     Fault, FaultKind, FileId, List, NameTable, NoMemory, Place, Refusal, Span, Token, TokenKind,
@@ -43,13 +43,7 @@ pub(crate) fn push(
 }
 
 /// The refusal for a fault at these bytes.
-pub(crate) fn refusal(
-    alloc: Global,
-    file: FileId,
-    kind: FaultKind,
-    start: u32,
-    end: u32,
-) -> Refusal
+pub(crate) fn refusal(alloc: Global, file: FileId, kind: FaultKind, start: u32, end: u32) -> Refusal
     ensures { result ≡ Refusal.Fault (fault_at file kind start end) }
 {
     Refusal::Fault(Fault {
@@ -176,7 +170,13 @@ fn push_number(
     if is_wide(text) {
         return Err(refusal(alloc, file, FaultKind::WideNumber, start, end));
     }
-    push(tokens, file, number_kind(file, text, start, end), start, end)?;
+    push(
+        tokens,
+        file,
+        number_kind(file, text, start, end),
+        start,
+        end,
+    )?;
     Ok(())
 }
 

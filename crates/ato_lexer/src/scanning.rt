@@ -12,9 +12,11 @@ ghost use Rattle.ato_lexer.specs.Shapes.{kind_of_shape};
 ghost use Rattle.ato_lexer.specs.Tokens.{bad_kind};
 ghost use Rattle.ato_lexer.specs.Walks.{closing, put, put_within, standing_after, levels_after, HasRoom};
 
-use crate::putting::{begin_line, push, push_end, push_piece, refusal};
 use crate::pieces::{Shape, front};
-use ato_base::{FaultKind, FileId, List, Mark, NameTable, NoMemory, Refusal, Token, TokenKind, first_char};
+use crate::putting::{begin_line, push, push_end, push_piece, refusal};
+use ato_base::{
+    FaultKind, FileId, List, Mark, NameTable, NoMemory, Refusal, Token, TokenKind, first_char,
+};
 use ato_units::before;
 use std::alloc::Global;
 
@@ -300,11 +302,7 @@ fn bad_kind(shape: Shape) -> Option<FaultKind>
 }
 
 /// Puts NEWLINE where a line is open.
-fn close_line(
-    tokens: &mut List<Token>,
-    file: FileId,
-    standing: Standing,
-) -> Result<(), NoMemory>
+fn close_line(tokens: &mut List<Token>, file: FileId, standing: Standing) -> Result<(), NoMemory>
     ensures { OnOk result ((names : List (List ℕ)) → Puts file names names tokens.old tokens.new (closing standing)) }
 {
     match standing {

@@ -2,7 +2,7 @@ use Rattle.std.proofs.Common.{reverse, ap, ◌∙◌, subst, sym}
 use Rattle.std.specs.Prelude.{◌++◌, ◌≡◌, ◌≤◌, ◌∷◌, []}
 use Rattle.std.specs.List.{repeat}
 use Rattle.ato_base.specs.declared.tokens.TokenKind.TheVariants as kinds
-use Rattle.ato_lexer.specs.Layout.{top, left, is_open, dedent}
+use Rattle.ato_lexer.specs.Layout.{top, left, is_open}
 use Rattle.ato_lexer.specs.Puts.{Puts}
 use Rattle.ato_lexer.specs.Tokens.{token_at}
 use Rattle.ato_lexer.proofs.LevelPuts.{left_steps, dedents_put}
@@ -14,5 +14,5 @@ returns-clause-puts c first names start end =
     let deep = subst (λ n. c.args.depth ≤ n) (c.top_of.ensures ∙ ap (λ l. top (reverse l)) c.as_slice.ensures.value) c.if-top_of-depth.false in
     let open_now = sym (c.is_open.ensures ∙ ap (λ l. is_open c.args.depth (reverse l)) c.as_slice-2.ensures.value) in
     let put = dedents_put c.args.file names c.args.tokens.now c.leave.new.tokens (left c.args.depth levels) first.start
-        (subst (λ n. c.leave.new.tokens ≡ c.args.tokens.now ++ repeat (left c.args.depth levels) (token_at c.args.file n n kinds.Dedent ∷ [])) (sym start) c.in_ok-leave.ensures.tokens) in
+    (subst (λ n. c.leave.new.tokens ≡ c.args.tokens.now ++ repeat (left c.args.depth levels) (token_at c.args.file n n kinds.Dedent ∷ [])) (sym start) c.in_ok-leave.ensures.tokens) in
     subst (λ is. Puts c.args.file names names c.args.tokens.now c.leave.new.tokens is) (sym (left_steps c.args.depth first levels deep (open_now ∙ c.if-not-is_open.false))) put

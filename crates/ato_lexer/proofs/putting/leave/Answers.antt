@@ -12,8 +12,8 @@ levels-preserved c =
     let (n, tokens, left, kept) = c.levels.invariant in
     let deep : c.args.depth < top (reverse c.as_slice.result.now) = subst (λ n. c.args.depth < n) c.top_of-level.ensures c.if-level-depth.false in
     let one = popped c.args.depth c.levels.levels.items c.pop.new.self.items c.pop.result c.pop.ensures.items
-        (c.pop.ensures.variant.1 (omega (arith, deep_filled c.args.depth c.as_slice.result.now deep, c.as_slice.ensures.len)))
-        (subst (λ l. c.args.depth < top (reverse l)) c.as_slice.ensures.value deep) in (
+    (c.pop.ensures.variant.1 (omega (arith, deep_filled c.args.depth c.as_slice.result.now deep, c.as_slice.ensures.len)))
+    (subst (λ l. c.args.depth < top (reverse l)) c.as_slice.ensures.value deep) in (
       suc n,
       c.in_ok-push.ensures ∙ ap (λ l. l ++ t ∷ []) tokens ∙ append_assoc c.args.tokens.now (repeat n (t ∷ [])) (t ∷ []) ∙ ap (λ l. c.args.tokens.now ++ l) (repeat-last n t),
       omega (arith, left, one.left_is),

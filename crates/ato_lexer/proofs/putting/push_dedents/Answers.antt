@@ -1,4 +1,4 @@
-use Rattle.std.proofs.Common.{◌≡◌, ℕ, suc, ◌+◌, ◌∷◌, [], ◌++◌, ap, ◌∙◌, sym, append_assoc, arith}
+use Rattle.std.proofs.Common.{◌≡◌, suc, ◌+◌, ◌∷◌, [], ◌++◌, ap, ◌∙◌, append_assoc, arith}
 use Rattle.std.specs.List.{repeat}
 use Rattle.ato_base.specs.declared.tokens.TokenKind.TheVariants as kinds
 use Rattle.ato_lexer.specs.Tokens.{token_at}

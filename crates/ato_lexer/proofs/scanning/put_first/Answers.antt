@@ -1,6 +1,6 @@
-use Rattle.std.proofs.Common.{List, reverse, refl, ap, sym, subst, ◌∷◌, []}
+use Rattle.std.proofs.Common.{reverse, refl, subst, ◌∷◌, []}
 use Rattle.std.proofs.lemmas.Result.{err_from_is_err_and}
-use Rattle.ato_lexer.specs.Layout.{Item, steps, token_item}
+use Rattle.ato_lexer.specs.Layout.{steps, token_item}
 use Rattle.ato_lexer.specs.Puts.{Puts, StopsAt, placed_as}
 use Rattle.ato_lexer.proofs.PutLaws.{puts_more, stops_front, stops_past, put_first}
 use Rattle.ato_lexer.proofs.scanning.put_first.Goals as goal

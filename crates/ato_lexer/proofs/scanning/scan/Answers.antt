@@ -1,4 +1,4 @@
-use Rattle.std.proofs.Common.{[], ◌++◌, reverse, refl, ap, sym, ◌∙◌, subst}
+use Rattle.std.proofs.Common.{[], ◌++◌, reverse, refl, ap, sym, subst}
 use Rattle.std.proofs.lemmas.Result.{err_from_is_err_and}
 use Rattle.ato_base.proofs.NameTableLaws.{extends_more}
 use Rattle.ato_lexer.specs.Layout.{last_items}
