@@ -1,5 +1,5 @@
 //! What one piece of a text puts, and where the scan stands behind it.
-ghost use Rattle.std.specs.Prelude.{◌≡◌, ◌∷◌, ◌+◌, ◌*◌, ◌^◌, ◌<◌, ◌≤◌, ◌++◌, [], List, ℕ, false, IfOk, OnOk, IfErr, MatchOption, drop, reverse, length};
+ghost use Rattle.std.specs.Prelude.{◌≡◌, ◌∷◌, ◌+◌, ◌*◌, ◌^◌, ◌<◌, ◌≤◌, ◌==◌, ◌&&◌, ◌++◌, [], List, ℕ, false, IfOk, OnOk, IfErr, MatchOption, drop, reverse, length};
 ghost use Rattle.std.specs.List.{fold};
 ghost use Rattle.std.specs.Str.{chars};
 ghost use Rattle.ato_base.specs.NameTable.{Extends};
@@ -34,6 +34,13 @@ fn is_line_end(shape: Shape) -> bool
     ensures { result ≡ is_line_end (kind_of_shape shape) }
 {
     matches!(&shape, Shape::LineEnd)
+}
+
+/// Whether a piece ends a line in which so many brackets are open.
+fn ends_line(shape: Shape, brackets: usize) -> bool
+    ensures { result ≡ (is_line_end (kind_of_shape shape) && (brackets == 0)) }
+{
+    is_line_end(shape) && brackets == 0
 }
 
 /// Whether a piece is no token.
@@ -127,7 +134,7 @@ fn behind_within(
     ensures value { result ≡ standing_after (Standing.Within brackets last) (placed_as shape text.now start end) }
     ensures room { HasRoom result end }
 {
-    if is_line_end(shape) && brackets == 0 {
+    if ends_line(shape, brackets) {
         Standing::Between(0)
     } else if is_blank(shape) {
         Standing::Within { brackets, last }
@@ -231,14 +238,11 @@ fn put_within(
     ensures stops { IfErr result (StopsAt file (put_within brackets last (placed_as shape text.now start end))) }
     ensures names { Extends names.old names.new }
 {
-    if is_line_end(shape) && brackets == 0 {
+    if ends_line(shape, brackets) {
         push(tokens, file, TokenKind::Newline, last, last)?;
-        return Ok(());
+    } else if !is_blank(shape) {
+        push_piece(alloc, tokens, names, file, shape, text, start, end)?;
     }
-    if is_blank(shape) {
-        return Ok(());
-    }
-    push_piece(alloc, tokens, names, file, shape, text, start, end)?;
     Ok(())
 }
 
