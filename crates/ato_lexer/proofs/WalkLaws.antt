@@ -70,8 +70,6 @@ unfolding first_part other_parts
 lines-first [] = refl
 lines-first (part ∷ parts) = refl
 
--- ---- kinds
-
 blank_opens : (k : Kind) (brackets : ℕ) → is_blank k ≡ true → open_after k brackets ≡ brackets
 blank_opens blank brackets h = refl
 blank_opens comment brackets h = refl
@@ -112,8 +110,6 @@ line_at-token column p part h =
     let front : blanks_in (p ∷ part) ≡ [] = take_while-cons (λ q. is_blank q.piece.kind) p part ∙ ap (λ b. cond b (p ∷ blanks_in part) []) h in
     ap (λ f. line_of (fold column_after column (chars_in f)) (tokens_in (p ∷ part))) front
     ∙ ap (line_of column) (tokens-token p part h)
-
--- ---- one step of a walk
 
 module _ (size : ℕ) (bad : List Item) (levels : List ℕ) (p : Placed) (ps : List Placed) where
   walk-between_end : (column : ℕ) → is_line_end p.piece.kind ≡ true → walk size bad levels (Between column) (p ∷ ps) ≡ walk size bad levels (Between 0) ps
@@ -170,8 +166,6 @@ module _ (size : ℕ) (bad : List Item) (levels : List ℕ) (p : Placed) (ps : L
       else token_item p ∷ walk size bad levels (Within (open_after p.piece.kind brackets) p.end) ps)) h
       ∙ ap (λ b. if b then walk size bad levels (Within brackets last) ps
       else token_item p ∷ walk size bad levels (Within (open_after p.piece.kind brackets) p.end) ps) k
-
--- ---- parts of one more piece
 
 parted-end : (brackets : ℕ) (p : Placed) (ps : List Placed) → (is_line_end p.piece.kind && (brackets == 0)) ≡ true → parted brackets (p ∷ ps) ≡ [] ∷ parted 0 ps
 parted-end brackets p ps h = ap (λ e. if e then [] ∷ parted 0 ps else onto_first p (parted (open_after p.piece.kind brackets) ps)) h

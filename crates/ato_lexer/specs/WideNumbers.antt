@@ -1,4 +1,4 @@
--- Which numbers are wide: numbers of the grammar that no fraction has as its value, as a test that computes.
+-- Which numbers are wide: numbers of the grammar that are out of the range in which their text is read, as a test that computes.
 use Rattle.std.specs.Prelude.{ℕ, ◌+◌, ◌-◌, ◌*◌, ◌^◌, ◌==◌, ◌&&◌, ◌||◌, nat_le, Bool, true, false, if◌then◌else◌, List, ◌++◌, length, take, Option, Some, None}
 use Rattle.std.specs.List.{suffix_len}
 use Rattle.ato_frac.specs.Numbers.{Parts, digits_value}
@@ -20,8 +20,8 @@ up parts = end_zeros (parts.whole ++ parts.fraction) + (if parts.negative then 0
 abbrev pub down : Parts → ℕ
 down parts = length parts.fraction + (if parts.negative then digits_value parts.exponent else 0)
 
--- m · 10^(up - down), where m is no multiple of 10 or 0, has no fraction: m or the number itself has no room below 2^127,
--- or up - down is not from -38 to 38
+-- m · 10^(up - down), where m is no multiple of 10 or 0, is out of range: m or the number itself is not below 2^127, or up - down is
+-- not from -38 to 38
 abbrev pub is_beyond : ℕ → ℕ → ℕ → Bool
 is_beyond m up down =
     if m == 0 then false

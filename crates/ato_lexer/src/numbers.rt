@@ -9,7 +9,7 @@ ghost use Rattle.ato_lexer.specs.WideNumbers.{is_wide};
 
 use ato_frac::{DecimalFault, Frac};
 
-/// Whether a text is a number that no fraction has as its value.
+/// Whether a text is a number that is wide: out of the range in which fractions are read.
 #[tactic(auto, using(crate::proofs::NumberLemmas::read_fits, crate::proofs::NumberLemmas::no_number_fits, crate::proofs::NumberLemmas::wide_told))]
 pub(crate) fn is_wide(text: &str) -> bool
     ensures { result ≡ is_wide (chars text.now) }
