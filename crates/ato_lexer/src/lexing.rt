@@ -9,7 +9,7 @@ ghost use Rattle.ato_lexer.specs.Tokens.{AreTokens, IsRefused, items};
 use crate::pieces::past_char;
 use crate::putting::refusal;
 use crate::scanning::scan;
-use ato_base::{FaultKind, FileId, List, NameTable, Refusal, Token};
+use ato_base::{FaultKind, FileId, List, NameTable, Refusal, Span, Token};
 use std::alloc::Global;
 use std::str;
 
@@ -73,7 +73,12 @@ pub fn lex(
         Ok(text) => lex_text(alloc, names, file, text),
         Err(error) => {
             let at = error.valid_up_to() as u32;
-            Err(refusal(alloc, file, FaultKind::BadText, at, at + 1))
+            let first_bad = Span {
+                file,
+                start: at,
+                end: at + 1,
+            };
+            Err(refusal(alloc, FaultKind::BadText, first_bad))
         }
     }
 }

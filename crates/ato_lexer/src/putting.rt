@@ -19,36 +19,40 @@ use ato_base::{
 };
 use std::alloc::Global;
 
-/// Some bytes of a file.
-fn span(file: FileId, start: u32, end: u32) -> Span
-    ensures { result ≡ record { file = file; start = start; end = end } }
+/// Puts a token behind the others.
+pub(crate) fn push(tokens: &mut List<Token>, kind: TokenKind, at: Span) -> Result<(), NoMemory>
+    ensures { OnOk result (tokens.new ≡ tokens.old ++ token_at at.file at.start at.end kind ∷ []) }
 {
-    Span { file, start, end }
+    tokens.push(Token { kind, at })
 }
 
-/// Puts a token that stands at these bytes behind the others.
-pub(crate) fn push(
+/// Puts a token that stands in front of a byte and has none.
+pub(crate) fn push_empty(
     tokens: &mut List<Token>,
-    file: FileId,
     kind: TokenKind,
-    start: u32,
-    end: u32,
+    file: FileId,
+    at: u32,
 ) -> Result<(), NoMemory>
-    ensures { OnOk result (tokens.new ≡ tokens.old ++ token_at file start end kind ∷ []) }
+    ensures { OnOk result (tokens.new ≡ tokens.old ++ token_at file at at kind ∷ []) }
 {
-    tokens.push(Token {
+    push(
+        tokens,
         kind,
-        at: span(file, start, end),
-    })
+        Span {
+            file,
+            start: at,
+            end: at,
+        },
+    )
 }
 
 /// The refusal for a fault at these bytes.
-pub(crate) fn refusal(alloc: Global, file: FileId, kind: FaultKind, start: u32, end: u32) -> Refusal
-    ensures { result ≡ Refusal.Fault (fault_at file kind start end) }
+pub(crate) fn refusal(alloc: Global, kind: FaultKind, at: Span) -> Refusal
+    ensures { result ≡ Refusal.Fault (fault_at at.file kind at.start at.end) }
 {
     Refusal::Fault(Fault {
         kind,
-        at: Place::Source(span(file, start, end)),
+        at: Place::Source(at),
         other: None,
         path: List::new(alloc),
     })
@@ -95,7 +99,7 @@ pub(crate) fn leave(
             return Ok(());
         }
         levels.pop();
-        push(tokens, file, TokenKind::Dedent, at, at)?;
+        push_empty(tokens, TokenKind::Dedent, file, at)?;
     }
 }
 
@@ -104,36 +108,34 @@ pub(crate) fn begin_line(
     alloc: Global,
     levels: &mut Vec<usize>,
     tokens: &mut List<Token>,
-    file: FileId,
     depth: usize,
-    start: u32,
-    end: u32,
+    at: Span,
 ) -> Result<(), Refusal>
     ensures levels { OnOk result (reverse levels.new.items ≡ opened depth (reverse levels.old.items)) }
-    ensures puts { OnOk result ((first : Placed) (names : List (List ℕ)) → first.start ≡ start → first.end ≡ end
-        → Puts file names names tokens.old tokens.new (steps depth first (reverse levels.old.items))) }
-    ensures stops { IfErr result (λ refusal. (first : Placed) → first.start ≡ start → first.end ≡ end → StopsAt file (steps depth first (reverse levels.old.items)) refusal) }
+    ensures puts { OnOk result ((first : Placed) (names : List (List ℕ)) → first.start ≡ at.start → first.end ≡ at.end
+        → Puts at.file names names tokens.old tokens.new (steps depth first (reverse levels.old.items))) }
+    ensures stops { IfErr result (λ refusal. (first : Placed) → first.start ≡ at.start → first.end ≡ at.end → StopsAt at.file (steps depth first (reverse levels.old.items)) refusal) }
 {
     if top_of(levels.as_slice()) < depth {
         levels.push(depth).map_err(NoMemory::from)?;
-        push(tokens, file, TokenKind::Indent, start, start)?;
+        push_empty(tokens, TokenKind::Indent, at.file, at.start)?;
         return Ok(());
     }
     if !is_open(depth, levels.as_slice()) {
-        return Err(refusal(alloc, file, FaultKind::BadIndent, start, end));
+        return Err(refusal(alloc, FaultKind::BadIndent, at));
     }
-    leave(levels, tokens, file, depth, start)?;
+    leave(levels, tokens, at.file, depth, at.start)?;
     Ok(())
 }
 
 /// What the token of a number is, which stands at these bytes.
-fn number_kind(file: FileId, text: &str, start: u32, end: u32) -> TokenKind
-    ensures { result ≡ kinds.Number (list_all is_ascii_digit (chars text.now)) (small_value (chars text.now)) (record { file = file; start = start; end = end }) }
+fn number_kind(text: &str, at: Span) -> TokenKind
+    ensures { result ≡ kinds.Number (list_all is_ascii_digit (chars text.now)) (small_value (chars text.now)) at }
 {
     TokenKind::Number {
         whole: is_whole(text),
         small: small_value(text),
-        at: span(file, start, end),
+        at,
     }
 }
 
@@ -142,41 +144,26 @@ fn number_kind(file: FileId, text: &str, start: u32, end: u32) -> TokenKind
 fn push_name(
     tokens: &mut List<Token>,
     names: &mut NameTable,
-    file: FileId,
     text: &str,
-    start: u32,
-    end: u32,
+    at: Span,
 ) -> Result<(), NoMemory>
-    ensures puts { OnOk result (Puts file names.old names.new tokens.old tokens.new (token_item (placed_as Shape.Name text.now start end) ∷ [])) }
+    ensures puts { OnOk result (Puts at.file names.old names.new tokens.old tokens.new (token_item (placed_as Shape.Name text.now at.start at.end) ∷ [])) }
     ensures names { Extends names.old names.new }
 {
     let name = names.intern(text)?;
-    push(tokens, file, TokenKind::Name(name), start, end)?;
+    push(tokens, TokenKind::Name(name), at)?;
     Ok(())
 }
 
 /// Puts the token of a number behind the others, or refuses one that is wide.
-fn push_number(
-    alloc: Global,
-    tokens: &mut List<Token>,
-    file: FileId,
-    text: &str,
-    start: u32,
-    end: u32,
-) -> Result<(), Refusal>
-    ensures puts { OnOk result ((names : List (List ℕ)) → Puts file names names tokens.old tokens.new (token_item (placed_as Shape.Number text.now start end) ∷ [])) }
-    ensures stops { IfErr result (StopsAt file (token_item (placed_as Shape.Number text.now start end) ∷ [])) }
+fn push_number(alloc: Global, tokens: &mut List<Token>, text: &str, at: Span) -> Result<(), Refusal>
+    ensures puts { OnOk result ((names : List (List ℕ)) → Puts at.file names names tokens.old tokens.new (token_item (placed_as Shape.Number text.now at.start at.end) ∷ [])) }
+    ensures stops { IfErr result (StopsAt at.file (token_item (placed_as Shape.Number text.now at.start at.end) ∷ [])) }
 {
     if is_wide(text) {
-        return Err(refusal(alloc, file, FaultKind::WideNumber, start, end));
+        return Err(refusal(alloc, FaultKind::WideNumber, at));
     }
-    push(
-        tokens,
-        file,
-        number_kind(file, text, start, end),
-        start,
-        end,
-    )?;
+    push(tokens, number_kind(text, at), at)?;
     Ok(())
 }
 
@@ -186,39 +173,41 @@ pub(crate) fn push_piece(
     alloc: Global,
     tokens: &mut List<Token>,
     names: &mut NameTable,
-    file: FileId,
     shape: Shape,
     text: &str,
-    start: u32,
-    end: u32,
+    at: Span,
 ) -> Result<(), Refusal>
     requires token { is_token (kind_of_shape shape) ≡ true }
     requires good { is_bad (kind_of_shape shape) ≡ false }
-    requires quotes { HasQuotes shape start end }
-    ensures puts { OnOk result (Puts file names.old names.new tokens.old tokens.new (token_item (placed_as shape text.now start end) ∷ [])) }
-    ensures stops { IfErr result (StopsAt file (token_item (placed_as shape text.now start end) ∷ [])) }
+    requires quotes { HasQuotes shape at.start at.end }
+    ensures puts { OnOk result (Puts at.file names.old names.new tokens.old tokens.new (token_item (placed_as shape text.now at.start at.end) ∷ [])) }
+    ensures stops { IfErr result (StopsAt at.file (token_item (placed_as shape text.now at.start at.end) ∷ [])) }
     ensures names { Extends names.old names.new }
 {
     match shape {
         Shape::Name => {
-            push_name(tokens, names, file, text, start, end)?;
+            push_name(tokens, names, text, at)?;
             Ok(())
         }
         Shape::Number => {
-            push_number(alloc, tokens, file, text, start, end)?;
+            push_number(alloc, tokens, text, at)?;
             Ok(())
         }
         Shape::Keyword(keyword) => {
-            push(tokens, file, TokenKind::Keyword(keyword), start, end)?;
+            push(tokens, TokenKind::Keyword(keyword), at)?;
             Ok(())
         }
         Shape::Str(quotes) => {
-            let inside = span(file, start + quotes, end - quotes);
-            push(tokens, file, TokenKind::Str(inside), start, end)?;
+            let inside = Span {
+                file: at.file,
+                start: at.start + quotes,
+                end: at.end - quotes,
+            };
+            push(tokens, TokenKind::Str(inside), at)?;
             Ok(())
         }
         Shape::Mark(mark) => {
-            push(tokens, file, TokenKind::Mark(mark), start, end)?;
+            push(tokens, TokenKind::Mark(mark), at)?;
             Ok(())
         }
         _ => Ok(()),
@@ -235,7 +224,7 @@ fn push_dedents(
     ensures { OnOk result (tokens.new ≡ tokens.old ++ repeat count (token_at file at at kinds.Dedent ∷ [])) }
 {
     'dedents: for _ in 0..count {
-        push(tokens, file, TokenKind::Dedent, at, at)?;
+        push_empty(tokens, TokenKind::Dedent, file, at)?;
     }
     Ok(())
 }
@@ -250,6 +239,6 @@ pub(crate) fn push_end(
     ensures { OnOk result ((names : List (List ℕ)) → Puts file names names tokens.old tokens.new (last_items (reverse levels.now) size [])) }
 {
     push_dedents(tokens, file, levels.len(), size)?;
-    push(tokens, file, TokenKind::End, size, size)?;
+    push_empty(tokens, TokenKind::End, file, size)?;
     Ok(())
 }

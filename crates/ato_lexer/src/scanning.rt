@@ -13,9 +13,9 @@ ghost use Rattle.ato_lexer.specs.Tokens.{bad_kind};
 ghost use Rattle.ato_lexer.specs.Walks.{closing, put, put_within, standing_after, levels_after, HasRoom};
 
 use crate::pieces::{Shape, front};
-use crate::putting::{begin_line, push, push_end, push_piece, refusal};
+use crate::putting::{begin_line, push_empty, push_end, push_piece, refusal};
 use ato_base::{
-    FaultKind, FileId, List, Mark, NameTable, NoMemory, Refusal, Token, TokenKind, first_char,
+    FaultKind, FileId, List, Mark, NameTable, NoMemory, Refusal, Span, Token, TokenKind, first_char,
 };
 use ato_units::before;
 use std::alloc::Global;
@@ -169,23 +169,21 @@ fn put_first(
     levels: &mut Vec<usize>,
     tokens: &mut List<Token>,
     names: &mut NameTable,
-    file: FileId,
     column: usize,
     shape: Shape,
     text: &str,
-    start: u32,
-    end: u32,
+    at: Span,
 ) -> Result<(), Refusal>
     requires token { is_blank (kind_of_shape shape) ≡ false }
     requires good { is_bad (kind_of_shape shape) ≡ false }
-    requires quotes { HasQuotes shape start end }
-    ensures puts { OnOk result (Puts file names.old names.new tokens.old tokens.new (put (reverse levels.old.items) (Standing.Between column) (placed_as shape text.now start end))) }
+    requires quotes { HasQuotes shape at.start at.end }
+    ensures puts { OnOk result (Puts at.file names.old names.new tokens.old tokens.new (put (reverse levels.old.items) (Standing.Between column) (placed_as shape text.now at.start at.end))) }
     ensures levels { OnOk result (reverse levels.new.items ≡ opened column (reverse levels.old.items)) }
-    ensures stops { IfErr result (StopsAt file (put (reverse levels.old.items) (Standing.Between column) (placed_as shape text.now start end))) }
+    ensures stops { IfErr result (StopsAt at.file (put (reverse levels.old.items) (Standing.Between column) (placed_as shape text.now at.start at.end))) }
     ensures names { Extends names.old names.new }
 {
-    begin_line(alloc, levels, tokens, file, column, start, end)?;
-    push_piece(alloc, tokens, names, file, shape, text, start, end)?;
+    begin_line(alloc, levels, tokens, column, at)?;
+    push_piece(alloc, tokens, names, shape, text, at)?;
     Ok(())
 }
 
@@ -196,26 +194,22 @@ fn put_between(
     levels: &mut Vec<usize>,
     tokens: &mut List<Token>,
     names: &mut NameTable,
-    file: FileId,
     column: usize,
     shape: Shape,
     text: &str,
-    start: u32,
-    end: u32,
+    at: Span,
 ) -> Result<(), Refusal>
     requires good { is_bad (kind_of_shape shape) ≡ false }
-    requires quotes { HasQuotes shape start end }
-    ensures puts { OnOk result (Puts file names.old names.new tokens.old tokens.new (put (reverse levels.old.items) (Standing.Between column) (placed_as shape text.now start end))) }
-    ensures levels { OnOk result (reverse levels.new.items ≡ levels_after (reverse levels.old.items) (Standing.Between column) (placed_as shape text.now start end)) }
-    ensures stops { IfErr result (StopsAt file (put (reverse levels.old.items) (Standing.Between column) (placed_as shape text.now start end))) }
+    requires quotes { HasQuotes shape at.start at.end }
+    ensures puts { OnOk result (Puts at.file names.old names.new tokens.old tokens.new (put (reverse levels.old.items) (Standing.Between column) (placed_as shape text.now at.start at.end))) }
+    ensures levels { OnOk result (reverse levels.new.items ≡ levels_after (reverse levels.old.items) (Standing.Between column) (placed_as shape text.now at.start at.end)) }
+    ensures stops { IfErr result (StopsAt at.file (put (reverse levels.old.items) (Standing.Between column) (placed_as shape text.now at.start at.end))) }
     ensures names { Extends names.old names.new }
 {
     if is_blank(shape) {
         return Ok(());
     }
-    put_first(
-        alloc, levels, tokens, names, file, column, shape, text, start, end,
-    )
+    put_first(alloc, levels, tokens, names, column, shape, text, at)
 }
 
 /// Puts what a piece in a line is: NEWLINE where the line ends, or a token.
@@ -224,24 +218,22 @@ fn put_within(
     alloc: Global,
     tokens: &mut List<Token>,
     names: &mut NameTable,
-    file: FileId,
     brackets: usize,
     last: u32,
     shape: Shape,
     text: &str,
-    start: u32,
-    end: u32,
+    at: Span,
 ) -> Result<(), Refusal>
     requires good { is_bad (kind_of_shape shape) ≡ false }
-    requires quotes { HasQuotes shape start end }
-    ensures puts { OnOk result (Puts file names.old names.new tokens.old tokens.new (put_within brackets last (placed_as shape text.now start end))) }
-    ensures stops { IfErr result (StopsAt file (put_within brackets last (placed_as shape text.now start end))) }
+    requires quotes { HasQuotes shape at.start at.end }
+    ensures puts { OnOk result (Puts at.file names.old names.new tokens.old tokens.new (put_within brackets last (placed_as shape text.now at.start at.end))) }
+    ensures stops { IfErr result (StopsAt at.file (put_within brackets last (placed_as shape text.now at.start at.end))) }
     ensures names { Extends names.old names.new }
 {
     if ends_line(shape, brackets) {
-        push(tokens, file, TokenKind::Newline, last, last)?;
+        push_empty(tokens, TokenKind::Newline, at.file, last)?;
     } else if !is_blank(shape) {
-        push_piece(alloc, tokens, names, file, shape, text, start, end)?;
+        push_piece(alloc, tokens, names, shape, text, at)?;
     }
     Ok(())
 }
@@ -270,26 +262,24 @@ fn put_piece(
     levels: &mut Vec<usize>,
     tokens: &mut List<Token>,
     names: &mut NameTable,
-    file: FileId,
     standing: Standing,
     shape: Shape,
     text: &str,
-    start: u32,
-    end: u32,
+    at: Span,
 ) -> Result<(), Refusal>
     requires good { is_bad (kind_of_shape shape) ≡ false }
-    requires quotes { HasQuotes shape start end }
-    ensures puts { OnOk result (Puts file names.old names.new tokens.old tokens.new (put (reverse levels.old.items) standing (placed_as shape text.now start end))) }
-    ensures levels { OnOk result (reverse levels.new.items ≡ levels_after (reverse levels.old.items) standing (placed_as shape text.now start end)) }
-    ensures stops { IfErr result (StopsAt file (put (reverse levels.old.items) standing (placed_as shape text.now start end))) }
+    requires quotes { HasQuotes shape at.start at.end }
+    ensures puts { OnOk result (Puts at.file names.old names.new tokens.old tokens.new (put (reverse levels.old.items) standing (placed_as shape text.now at.start at.end))) }
+    ensures levels { OnOk result (reverse levels.new.items ≡ levels_after (reverse levels.old.items) standing (placed_as shape text.now at.start at.end)) }
+    ensures stops { IfErr result (StopsAt at.file (put (reverse levels.old.items) standing (placed_as shape text.now at.start at.end))) }
     ensures names { Extends names.old names.new }
 {
     match standing {
         Standing::Between(column) => put_between(
-            alloc, levels, tokens, names, file, column, shape, text, start, end,
+            alloc, levels, tokens, names, column, shape, text, at,
         ),
         Standing::Within { brackets, last } => put_within(
-            alloc, tokens, names, file, brackets, last, shape, text, start, end,
+            alloc, tokens, names, brackets, last, shape, text, at,
         ),
     }
 }
@@ -312,7 +302,7 @@ fn close_line(tokens: &mut List<Token>, file: FileId, standing: Standing) -> Res
     match standing {
         Standing::Between(_) => Ok(()),
         Standing::Within { last, .. } => {
-            push(tokens, file, TokenKind::Newline, last, last)?;
+            push_empty(tokens, TokenKind::Newline, file, last)?;
             Ok(())
         }
     }
@@ -353,20 +343,23 @@ pub(crate) fn scan(
     let mut at = start;
     'pieces: while let Some((shape, spelled, after)) = next_piece(rest) {
         let end = at + spelled.len() as u32;
+        let span = Span {
+            file,
+            start: at,
+            end,
+        };
         if let Some(kind) = bad_kind(shape) {
-            return Err(refusal(alloc, file, kind, at, end));
+            return Err(refusal(alloc, kind, span));
         }
         put_piece(
             alloc,
             &mut levels,
             &mut tokens,
             names,
-            file,
             standing,
             shape,
             spelled,
-            at,
-            end,
+            span,
         )?;
         standing = standing_after(standing, shape, spelled, at, end);
         rest = after;

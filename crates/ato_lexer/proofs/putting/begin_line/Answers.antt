@@ -13,6 +13,6 @@ returns-clause-puts c first names start end =
     let levels = reverse c.args.levels.now.items in
     let deep = subst (λ n. c.args.depth ≤ n) (c.top_of.ensures ∙ ap (λ l. top (reverse l)) c.as_slice.ensures.value) c.if-top_of-depth.false in
     let open_now = sym (c.is_open.ensures ∙ ap (λ l. is_open c.args.depth (reverse l)) c.as_slice-2.ensures.value) in
-    let put = dedents_put c.args.file names c.args.tokens.now c.leave.new.tokens (left c.args.depth levels) first.start
-    (subst (λ n. c.leave.new.tokens ≡ c.args.tokens.now ++ repeat (left c.args.depth levels) (token_at c.args.file n n kinds.Dedent ∷ [])) (sym start) c.in_ok-leave.ensures.tokens) in
-    subst (λ is. Puts c.args.file names names c.args.tokens.now c.leave.new.tokens is) (sym (left_steps c.args.depth first levels deep (open_now ∙ c.if-not-is_open.false))) put
+    let put = dedents_put c.args.at.file names c.args.tokens.now c.leave.new.tokens (left c.args.depth levels) first.start
+    (subst (λ n. c.leave.new.tokens ≡ c.args.tokens.now ++ repeat (left c.args.depth levels) (token_at c.args.at.file n n kinds.Dedent ∷ [])) (sym start) c.in_ok-leave.ensures.tokens) in
+    subst (λ is. Puts c.args.at.file names names c.args.tokens.now c.leave.new.tokens is) (sym (left_steps c.args.depth first levels deep (open_now ∙ c.if-not-is_open.false))) put

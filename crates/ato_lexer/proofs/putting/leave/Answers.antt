@@ -15,7 +15,7 @@ levels-preserved c =
     (c.pop.ensures.variant.1 (omega (arith, deep_filled c.args.depth c.as_slice.result.now deep, c.as_slice.ensures.len)))
     (subst (λ l. c.args.depth < top (reverse l)) c.as_slice.ensures.value deep) in (
       suc n,
-      c.in_ok-push.ensures ∙ ap (λ l. l ++ t ∷ []) tokens ∙ append_assoc c.args.tokens.now (repeat n (t ∷ [])) (t ∷ []) ∙ ap (λ l. c.args.tokens.now ++ l) (repeat-last n t),
+      c.in_ok-push_empty.ensures ∙ ap (λ l. l ++ t ∷ []) tokens ∙ append_assoc c.args.tokens.now (repeat n (t ∷ [])) (t ∷ []) ∙ ap (λ l. c.args.tokens.now ++ l) (repeat-last n t),
       omega (arith, left, one.left_is),
       kept ∙ one.kept_is,
     )
