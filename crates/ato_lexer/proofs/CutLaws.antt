@@ -15,6 +15,7 @@ use Rattle.ato_frac.proofs.Digits.{and_true}
 use Rattle.ato_units.specs.LiteralReading.{past, before, past_number}
 use Rattle.ato_units.proofs.Cutting.{before_seam}
 use Rattle.ato_units.proofs.Fronts.{cut_past, number_cut}
+use Rattle.ato_units.proofs.NextTokens.{goes_on}
 use Rattle.ato_lexer.specs.Fronts.{Written, begins, three, comment_len, before_quote, before_three, front_mark}
 use Rattle.ato_lexer.specs.Pieces.{Kind, Piece, is_bad, piece, keyword_or_name, word_kind, word_piece, string_or_open, string_piece, mark_or_bad, front_piece, front_of, pieces_within, pieces_of}
 use Rattle.ato_lexer.specs.Pieces as pieces
@@ -227,20 +228,6 @@ front_of_taken [] h = absurd (cc)
 front_of_taken (c ∷ cs) h =
     let size = length (front_piece c cs).text in
     sym (take-append-drop size (c ∷ cs)) ∙ ap (λ (xs : List ℕ). xs ++ drop size (c ∷ cs)) (front_taken c cs).front
-
--- where two fronts of a text end, one goes on to the other
-record GoesOn (xs ys zs ws : List ℕ) : Type 0 where
-  more : List ℕ
-  longer : zs ≡ xs ++ more
-  rest_is : ys ≡ more ++ ws
-
-goes_on : (xs ys zs ws : List ℕ) → xs ++ ys ≡ zs ++ ws → length xs ≤ length zs → GoesOn xs ys zs ws
-goes_on [] ys zs ws e l = record { more = zs; longer = refl; rest_is = e }
-goes_on (x ∷ xs) ys [] ws e l = absurd (omega (arith, l))
-goes_on (x ∷ xs) ys (z ∷ zs) ws e l =
-    let same : x ≡ z = cc in
-    let k = goes_on xs ys zs ws (cc) (omega (arith, l)) in
-    record { more = k.more; longer = ap (λ (c : ℕ). c ∷ zs) (sym same) ∙ ap (λ (cs : List ℕ). x ∷ cs) k.longer; rest_is = k.rest_is }
 
 next_first : (p : Piece) (rest : List ℕ) → IsNext p rest → front_of (p.text ++ rest) ≡ p
 next_first p rest n = by (bound p.kind p.text rest n.spelled)

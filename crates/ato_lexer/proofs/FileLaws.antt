@@ -1,10 +1,8 @@
 -- What stands in a file, as the scan of its text puts it, and what follows for its tokens.
 use Rattle.std.proofs.Common.{◌≡◌, ℕ, ◌+◌, List, [], ◌∷◌, length, eqb-true, refl, sym, ap, ◌∙◌, arith}
 use Rattle.std.specs.Prelude.{Bool, true, false, Some, None, IsUtf8, if◌then◌else◌, ◌==◌, ◌&&◌}
-use Rattle.std.specs.Str.{chars, is_utf8}
-use Rattle.std.specs.Str.Lossy.{utf8_valid_len}
-use Rattle.std.proofs.lemmas.Str.{is_utf8-from_IsUtf8, IsUtf8-from_is_utf8}
-use Rattle.ato_base.specs.declared.faults.FaultKind.TheVariants as faults
+use Rattle.std.specs.Str.{chars}
+use Rattle.std.proofs.lemmas.Str.{is_utf8-from_IsUtf8}
 use Rattle.ato_base.specs.declared.faults.Refusal.{Refusal}
 use Rattle.ato_base.specs.declared.faults.Refusal.TheVariants as refusals
 use Rattle.ato_base.specs.declared.places.FileId.{FileId}
@@ -15,7 +13,7 @@ use Rattle.ato_lexer.specs.Pieces.{Piece, piece, blank, pieces_of, pieces}
 use Rattle.ato_lexer.specs.Puts.{Puts, StopsAt}
 use Rattle.ato_lexer.specs.Reading.{past_char}
 use Rattle.ato_lexer.specs.Scans.{scanned}
-use Rattle.ato_lexer.specs.Tokens.{AreTokens, IsRefused, items, first_fault, first_of, fault_at}
+use Rattle.ato_lexer.specs.Tokens.{AreTokens, IsRefused, items, first_fault, first_of}
 use Rattle.ato_lexer.specs.Walks.{scan}
 use Rattle.ato_lexer.specs.declared.scanning.Standing.TheVariants.{Between}
 use Rattle.ato_lexer.proofs.FirstPieces.{size_of, bytes_append}
@@ -85,14 +83,6 @@ a_mark text rest utf8 rest_utf8 h =
     ∙ ap (λ n. scan n [] (Between 0) (placed 3 (pieces_of (chars rest)))) whole
 
 -- ---- tokens or a fault
-
-pub no_text : (file : FileId) (bytes : List ℕ) (n : ℕ) → ¬ IsUtf8 bytes → n ≡ utf8_valid_len bytes → first_fault file bytes ≡ Some (fault_at file faults.BadText n (n + 1))
-unfolding first_fault
-no_text file bytes n h e = by (is_utf8 bytes) refl
-  where
-    by : (b : Bool) → is_utf8 bytes ≡ b → first_fault file bytes ≡ Some (fault_at file faults.BadText n (n + 1))
-    by true f = absurd (h (IsUtf8-from_is_utf8 bytes f))
-    by false f = rw (f, e) refl
 
 text_fault : (file : FileId) (bytes : List ℕ) → IsUtf8 bytes → first_fault file bytes ≡ first_of file (items bytes)
 unfolding first_fault

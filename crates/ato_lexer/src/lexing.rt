@@ -57,7 +57,7 @@ fn lex_text(
 /// # Errors
 ///
 /// The first fault, or want of memory. The table may then have got some of the names.
-#[tactic(auto, using(crate::proofs::FileLaws::no_text, crate::proofs::FileLaws::tokens_put, crate::proofs::FileLaws::fault_put))]
+#[tactic(auto, using(crate::proofs::TokenLaws::no_text, crate::proofs::FileLaws::tokens_put, crate::proofs::FileLaws::fault_put))]
 pub fn lex(
     alloc: Global,
     text: &[u8],

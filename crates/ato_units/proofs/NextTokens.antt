@@ -42,12 +42,12 @@ blank_none c cs h = by (c == 32) refl (c == 9) refl h
     by false e false f g = absurd (cc)
 
 -- where two fronts of a text end, one goes on to the other
-record GoesOn (xs ys zs ws : List ℕ) : Type 0 where
-  more : List ℕ
-  longer : zs ≡ xs ++ more
-  rest_is : ys ≡ more ++ ws
+pub record GoesOn (xs ys zs ws : List ℕ) : Type 0 where
+  pub more : List ℕ
+  pub longer : zs ≡ xs ++ more
+  pub rest_is : ys ≡ more ++ ws
 
-goes_on : (xs ys zs ws : List ℕ) → xs ++ ys ≡ zs ++ ws → length xs ≤ length zs → GoesOn xs ys zs ws
+pub goes_on : (xs ys zs ws : List ℕ) → xs ++ ys ≡ zs ++ ws → length xs ≤ length zs → GoesOn xs ys zs ws
 goes_on [] ys zs ws e l = record { more = zs; longer = refl; rest_is = e }
 goes_on (x ∷ xs) ys [] ws e l = absurd (omega arith)
 goes_on (x ∷ xs) ys (z ∷ zs) ws e l =
