@@ -12,6 +12,7 @@ use Rattle.ato_lexer.specs.Lines.{Placed, bytes_len}
 use Rattle.ato_lexer.specs.Pieces.{pieces_of}
 use Rattle.ato_lexer.specs.Shapes.{kind_of_shape}
 use Rattle.ato_lexer.specs.Tokens.{item_token, item_name, first_of}
+use Rattle.ato_lexer.specs.declared.pieces.Piece.{Piece}
 use Rattle.ato_lexer.specs.declared.pieces.Shape.{Shape}
 use Rattle.ato_lexer.specs.declared.pieces.Shape.TheVariants as shapes
 
@@ -30,6 +31,10 @@ StopsAt file items refusals.NoMemory = Unit {0}
 -- a piece of this shape and text at these bytes
 abbrev pub placed_as : Shape → List ℕ → ℕ → ℕ → Placed
 placed_as shape text start end = record { piece = record { kind = kind_of_shape shape; text = chars text }; start = start; end = end }
+
+-- a piece of code
+abbrev pub placed_of : Piece → Placed
+placed_of p = placed_as p.shape p.text.now p.at.start p.at.end
 
 -- A string's place has room for its quotes.
 abbrev pub HasQuotes : Shape → ℕ → ℕ → Type 0

@@ -10,7 +10,7 @@ ghost use Rattle.ato_lexer.specs.Pieces.{word_kind, front_of};
 ghost use Rattle.ato_lexer.specs.Reading.{GoesOn, past_char, past_two, past_three, is_in_line, after_quote, after_three, read_quoted, longer_or, read_mark, feed_or_bad, read_token, read_front};
 ghost use Rattle.ato_lexer.specs.Shapes.{kind_of_shape, cut_told};
 
-use ato_base::{Keyword, Mark, first_char};
+use ato_base::{Keyword, Mark, Span, first_char};
 use ato_units::{before, past_number, past_word};
 use unicode_ident::is_xid_start;
 
@@ -32,6 +32,14 @@ pub(crate) enum Shape {
     BadChar,
     /// The first quote of a string that has no end.
     OpenString,
+}
+
+/// A piece of a file: what it is, how it is spelled, and where it stands.
+#[derive(Clone, Copy)]
+pub(crate) struct Piece<'a> {
+    pub(crate) shape: Shape,
+    pub(crate) text: &'a str,
+    pub(crate) at: Span,
 }
 
 /// What follows a character, if it stands in front.
@@ -250,7 +258,7 @@ fn token<'a>(text: &'a str, first: char, after: &'a str) -> (Shape, &'a str)
 
 /// The piece that begins with a character, which is cut off `after`, and what follows it.
 #[tactic(auto, unfolding(crate::specs::Reading::read_front))]
-fn piece<'a>(text: &'a str, first: char, after: &'a str) -> (Shape, &'a str)
+fn cut_piece<'a>(text: &'a str, first: char, after: &'a str) -> (Shape, &'a str)
     requires { chars text.now ≡ first ∷ chars after.now }
     ensures { cut_told result ≡ read_front first (chars after.now) }
 {
@@ -279,6 +287,6 @@ pub(crate) fn front(text: &str) -> Option<(Shape, &str)>
     ensures shorter { MatchOption result (length text.now ≡ 0) (λ cut. length cut.1.now < length text.now) }
 {
     let (first, after) = first_char(text)?;
-    let (shape, rest) = piece(text, first, after);
+    let (shape, rest) = cut_piece(text, first, after);
     Some((shape, end_of(text, rest)))
 }

@@ -8,12 +8,12 @@ ghost use Rattle.ato_base.specs.declared.tokens.TokenKind.TheVariants as kinds;
 ghost use Rattle.ato_lexer.specs.Layout.{last_items, top, left, kept, opened, is_open, steps, token_item};
 ghost use Rattle.ato_lexer.specs.Lines.{Placed, is_token};
 ghost use Rattle.ato_lexer.specs.Pieces.{is_bad};
-ghost use Rattle.ato_lexer.specs.Puts.{Puts, StopsAt, placed_as, HasQuotes};
+ghost use Rattle.ato_lexer.specs.Puts.{Puts, StopsAt, placed_as, placed_of, HasQuotes};
 ghost use Rattle.ato_lexer.specs.Shapes.{kind_of_shape};
 ghost use Rattle.ato_lexer.specs.Tokens.{token_at, fault_at, small_value};
 
 use crate::numbers::{is_whole, is_wide, small_value};
-use crate::pieces::Shape;
+use crate::pieces::{Piece, Shape};
 use ato_base::{
     Fault, FaultKind, FileId, List, NameTable, NoMemory, Place, Refusal, Span, Token, TokenKind,
 };
@@ -173,41 +173,39 @@ pub(crate) fn push_piece(
     alloc: Global,
     tokens: &mut List<Token>,
     names: &mut NameTable,
-    shape: Shape,
-    text: &str,
-    at: Span,
+    piece: Piece,
 ) -> Result<(), Refusal>
-    requires token { is_token (kind_of_shape shape) ≡ true }
-    requires good { is_bad (kind_of_shape shape) ≡ false }
-    requires quotes { HasQuotes shape at.start at.end }
-    ensures puts { OnOk result (Puts at.file names.old names.new tokens.old tokens.new (token_item (placed_as shape text.now at.start at.end) ∷ [])) }
-    ensures stops { IfErr result (StopsAt at.file (token_item (placed_as shape text.now at.start at.end) ∷ [])) }
+    requires token { is_token (kind_of_shape piece.shape) ≡ true }
+    requires good { is_bad (kind_of_shape piece.shape) ≡ false }
+    requires quotes { HasQuotes piece.shape piece.at.start piece.at.end }
+    ensures puts { OnOk result (Puts piece.entry.at.file names.old names.new tokens.old tokens.new (token_item (placed_of piece.entry) ∷ [])) }
+    ensures stops { IfErr result (StopsAt piece.entry.at.file (token_item (placed_of piece.entry) ∷ [])) }
     ensures names { Extends names.old names.new }
 {
-    match shape {
+    match piece.shape {
         Shape::Name => {
-            push_name(tokens, names, text, at)?;
+            push_name(tokens, names, piece.text, piece.at)?;
             Ok(())
         }
         Shape::Number => {
-            push_number(alloc, tokens, text, at)?;
+            push_number(alloc, tokens, piece.text, piece.at)?;
             Ok(())
         }
         Shape::Keyword(keyword) => {
-            push(tokens, TokenKind::Keyword(keyword), at)?;
+            push(tokens, TokenKind::Keyword(keyword), piece.at)?;
             Ok(())
         }
         Shape::Str(quotes) => {
             let inside = Span {
-                file: at.file,
-                start: at.start + quotes,
-                end: at.end - quotes,
+                file: piece.at.file,
+                start: piece.at.start + quotes,
+                end: piece.at.end - quotes,
             };
-            push(tokens, TokenKind::Str(inside), at)?;
+            push(tokens, TokenKind::Str(inside), piece.at)?;
             Ok(())
         }
         Shape::Mark(mark) => {
-            push(tokens, TokenKind::Mark(mark), at)?;
+            push(tokens, TokenKind::Mark(mark), piece.at)?;
             Ok(())
         }
         _ => Ok(()),

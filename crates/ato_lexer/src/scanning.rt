@@ -6,13 +6,13 @@ ghost use Rattle.ato_base.specs.NameTable.{Extends};
 ghost use Rattle.ato_lexer.specs.Layout.{last_items, steps, opened, token_item};
 ghost use Rattle.ato_lexer.specs.Lines.{Placed, column_after, is_line_end, is_blank, open_after};
 ghost use Rattle.ato_lexer.specs.Pieces.{front_of, is_bad};
-ghost use Rattle.ato_lexer.specs.Puts.{Puts, StopsAt, placed_as, HasQuotes, IsFirst};
+ghost use Rattle.ato_lexer.specs.Puts.{Puts, StopsAt, placed_of, HasQuotes, IsFirst};
 ghost use Rattle.ato_lexer.specs.Scans.{scanned};
 ghost use Rattle.ato_lexer.specs.Shapes.{kind_of_shape};
 ghost use Rattle.ato_lexer.specs.Tokens.{bad_kind};
 ghost use Rattle.ato_lexer.specs.Walks.{closing, put, put_within, standing_after, levels_after, HasRoom};
 
-use crate::pieces::{Shape, front};
+use crate::pieces::{Piece, Shape, front};
 use crate::putting::{begin_line, push_empty, push_end, push_piece, refusal};
 use ato_base::{
     FaultKind, FileId, List, Mark, NameTable, NoMemory, Refusal, Span, Token, TokenKind, first_char,
@@ -100,65 +100,56 @@ fn column_behind(column: usize, text: &str) -> usize
 }
 
 /// Where a scan between two lines stands behind a piece.
-fn behind_between(column: usize, shape: Shape, text: &str, start: u32, end: u32) -> Standing
-    requires room { column ≤ 8 * start }
-    requires bytes { start + length text.now ≡ end }
-    requires some { 0 < length text.now }
-    ensures value { result ≡ standing_after (Standing.Between column) (placed_as shape text.now start end) }
-    ensures room { HasRoom result end }
+fn behind_between(column: usize, piece: Piece) -> Standing
+    requires room { column ≤ 8 * piece.at.start }
+    requires bytes { piece.at.start + length piece.text.now ≡ piece.at.end }
+    requires some { 0 < length piece.text.now }
+    ensures value { result ≡ standing_after (Standing.Between column) (placed_of piece.entry) }
+    ensures room { HasRoom result piece.entry.at.end }
 {
-    if is_line_end(shape) {
+    if is_line_end(piece.shape) {
         Standing::Between(0)
-    } else if is_blank(shape) {
-        Standing::Between(column_behind(column, text))
+    } else if is_blank(piece.shape) {
+        Standing::Between(column_behind(column, piece.text))
     } else {
         Standing::Within {
-            brackets: open_after(shape, 0),
-            last: end,
+            brackets: open_after(piece.shape, 0),
+            last: piece.at.end,
         }
     }
 }
 
 /// Where a scan in a line stands behind a piece.
-fn behind_within(
-    brackets: usize,
-    last: u32,
-    shape: Shape,
-    text: &str,
-    start: u32,
-    end: u32,
-) -> Standing
-    requires room { brackets ≤ start }
-    requires bytes { start + length text.now ≡ end }
-    requires some { 0 < length text.now }
-    ensures value { result ≡ standing_after (Standing.Within brackets last) (placed_as shape text.now start end) }
-    ensures room { HasRoom result end }
+fn behind_within(brackets: usize, last: u32, piece: Piece) -> Standing
+    requires room { brackets ≤ piece.at.start }
+    requires bytes { piece.at.start + length piece.text.now ≡ piece.at.end }
+    requires some { 0 < length piece.text.now }
+    ensures value { result ≡ standing_after (Standing.Within brackets last) (placed_of piece.entry) }
+    ensures room { HasRoom result piece.entry.at.end }
 {
-    if ends_line(shape, brackets) {
+    if ends_line(piece.shape, brackets) {
         Standing::Between(0)
-    } else if is_blank(shape) {
+    } else if is_blank(piece.shape) {
         Standing::Within { brackets, last }
     } else {
         Standing::Within {
-            brackets: open_after(shape, brackets),
-            last: end,
+            brackets: open_after(piece.shape, brackets),
+            last: piece.at.end,
         }
     }
 }
 
 /// Where a scan stands behind a piece.
-fn standing_after(standing: Standing, shape: Shape, text: &str, start: u32, end: u32) -> Standing
-    requires room { HasRoom standing start }
-    requires bytes { start + length text.now ≡ end }
-    requires some { 0 < length text.now }
-    ensures value { result ≡ standing_after standing (placed_as shape text.now start end) }
-    ensures room { HasRoom result end }
+fn standing_after(standing: Standing, piece: Piece) -> Standing
+    requires room { HasRoom standing piece.at.start }
+    requires bytes { piece.at.start + length piece.text.now ≡ piece.at.end }
+    requires some { 0 < length piece.text.now }
+    ensures value { result ≡ standing_after standing (placed_of piece.entry) }
+    ensures room { HasRoom result piece.entry.at.end }
 {
     match standing {
-        Standing::Between(column) => behind_between(column, shape, text, start, end),
-        Standing::Within { brackets, last } => {
-            behind_within(brackets, last, shape, text, start, end)
-        }
+        Standing::Between(column) => behind_between(column, piece),
+        Standing::Within { brackets, last } => { behind_within(brackets, last, piece) }
     }
 }
 
@@ -170,20 +161,18 @@ fn put_first(
     tokens: &mut List<Token>,
     names: &mut NameTable,
     column: usize,
-    shape: Shape,
-    text: &str,
-    at: Span,
+    piece: Piece,
 ) -> Result<(), Refusal>
-    requires token { is_blank (kind_of_shape shape) ≡ false }
-    requires good { is_bad (kind_of_shape shape) ≡ false }
-    requires quotes { HasQuotes shape at.start at.end }
-    ensures puts { OnOk result (Puts at.file names.old names.new tokens.old tokens.new (put (reverse levels.old.items) (Standing.Between column) (placed_as shape text.now at.start at.end))) }
+    requires token { is_blank (kind_of_shape piece.shape) ≡ false }
+    requires good { is_bad (kind_of_shape piece.shape) ≡ false }
+    requires quotes { HasQuotes piece.shape piece.at.start piece.at.end }
+    ensures puts { OnOk result (Puts piece.entry.at.file names.old names.new tokens.old tokens.new (put (reverse levels.old.items) (Standing.Between column) (placed_of piece.entry))) }
     ensures levels { OnOk result (reverse levels.new.items ≡ opened column (reverse levels.old.items)) }
-    ensures stops { IfErr result (StopsAt at.file (put (reverse levels.old.items) (Standing.Between column) (placed_as shape text.now at.start at.end))) }
+    ensures stops { IfErr result (StopsAt piece.entry.at.file (put (reverse levels.old.items) (Standing.Between column) (placed_of piece.entry))) }
     ensures names { Extends names.old names.new }
 {
-    begin_line(alloc, levels, tokens, column, at)?;
-    push_piece(alloc, tokens, names, shape, text, at)?;
+    begin_line(alloc, levels, tokens, column, piece.at)?;
+    push_piece(alloc, tokens, names, piece)?;
     Ok(())
 }
 
@@ -195,21 +184,19 @@ fn put_between(
     tokens: &mut List<Token>,
     names: &mut NameTable,
     column: usize,
-    shape: Shape,
-    text: &str,
-    at: Span,
+    piece: Piece,
 ) -> Result<(), Refusal>
-    requires good { is_bad (kind_of_shape shape) ≡ false }
-    requires quotes { HasQuotes shape at.start at.end }
-    ensures puts { OnOk result (Puts at.file names.old names.new tokens.old tokens.new (put (reverse levels.old.items) (Standing.Between column) (placed_as shape text.now at.start at.end))) }
-    ensures levels { OnOk result (reverse levels.new.items ≡ levels_after (reverse levels.old.items) (Standing.Between column) (placed_as shape text.now at.start at.end)) }
-    ensures stops { IfErr result (StopsAt at.file (put (reverse levels.old.items) (Standing.Between column) (placed_as shape text.now at.start at.end))) }
+    requires good { is_bad (kind_of_shape piece.shape) ≡ false }
+    requires quotes { HasQuotes piece.shape piece.at.start piece.at.end }
+    ensures puts { OnOk result (Puts piece.entry.at.file names.old names.new tokens.old tokens.new (put (reverse levels.old.items) (Standing.Between column) (placed_of piece.entry))) }
+    ensures levels { OnOk result (reverse levels.new.items ≡ levels_after (reverse levels.old.items) (Standing.Between column) (placed_of piece.entry)) }
+    ensures stops { IfErr result (StopsAt piece.entry.at.file (put (reverse levels.old.items) (Standing.Between column) (placed_of piece.entry))) }
     ensures names { Extends names.old names.new }
 {
-    if is_blank(shape) {
+    if is_blank(piece.shape) {
         return Ok(());
     }
-    put_first(alloc, levels, tokens, names, column, shape, text, at)
+    put_first(alloc, levels, tokens, names, column, piece)
 }
 
 /// Puts what a piece in a line is: NEWLINE where the line ends, or a token.
@@ -220,20 +207,18 @@ fn put_within(
     names: &mut NameTable,
     brackets: usize,
     last: u32,
-    shape: Shape,
-    text: &str,
-    at: Span,
+    piece: Piece,
 ) -> Result<(), Refusal>
-    requires good { is_bad (kind_of_shape shape) ≡ false }
-    requires quotes { HasQuotes shape at.start at.end }
-    ensures puts { OnOk result (Puts at.file names.old names.new tokens.old tokens.new (put_within brackets last (placed_as shape text.now at.start at.end))) }
-    ensures stops { IfErr result (StopsAt at.file (put_within brackets last (placed_as shape text.now at.start at.end))) }
+    requires good { is_bad (kind_of_shape piece.shape) ≡ false }
+    requires quotes { HasQuotes piece.shape piece.at.start piece.at.end }
+    ensures puts { OnOk result (Puts piece.entry.at.file names.old names.new tokens.old tokens.new (put_within brackets last (placed_of piece.entry))) }
+    ensures stops { IfErr result (StopsAt piece.entry.at.file (put_within brackets last (placed_of piece.entry))) }
     ensures names { Extends names.old names.new }
 {
-    if ends_line(shape, brackets) {
-        push_empty(tokens, TokenKind::Newline, at.file, last)?;
-    } else if !is_blank(shape) {
-        push_piece(alloc, tokens, names, shape, text, at)?;
+    if ends_line(piece.shape, brackets) {
+        push_empty(tokens, TokenKind::Newline, piece.at.file, last)?;
+    } else if !is_blank(piece.shape) {
+        push_piece(alloc, tokens, names, piece)?;
     }
     Ok(())
 }
@@ -263,23 +248,19 @@ fn put_piece(
     tokens: &mut List<Token>,
     names: &mut NameTable,
     standing: Standing,
-    shape: Shape,
-    text: &str,
-    at: Span,
+    piece: Piece,
 ) -> Result<(), Refusal>
-    requires good { is_bad (kind_of_shape shape) ≡ false }
-    requires quotes { HasQuotes shape at.start at.end }
-    ensures puts { OnOk result (Puts at.file names.old names.new tokens.old tokens.new (put (reverse levels.old.items) standing (placed_as shape text.now at.start at.end))) }
-    ensures levels { OnOk result (reverse levels.new.items ≡ levels_after (reverse levels.old.items) standing (placed_as shape text.now at.start at.end)) }
-    ensures stops { IfErr result (StopsAt at.file (put (reverse levels.old.items) standing (placed_as shape text.now at.start at.end))) }
+    requires good { is_bad (kind_of_shape piece.shape) ≡ false }
+    requires quotes { HasQuotes piece.shape piece.at.start piece.at.end }
+    ensures puts { OnOk result (Puts piece.entry.at.file names.old names.new tokens.old tokens.new (put (reverse levels.old.items) standing (placed_of piece.entry))) }
+    ensures levels { OnOk result (reverse levels.new.items ≡ levels_after (reverse levels.old.items) standing (placed_of piece.entry)) }
+    ensures stops { IfErr result (StopsAt piece.entry.at.file (put (reverse levels.old.items) standing (placed_of piece.entry))) }
     ensures names { Extends names.old names.new }
 {
     match standing {
-        Standing::Between(column) => put_between(
-            alloc, levels, tokens, names, column, shape, text, at,
-        ),
+        Standing::Between(column) => put_between(alloc, levels, tokens, names, column, piece),
         Standing::Within { brackets, last } => put_within(
-            alloc, tokens, names, brackets, last, shape, text, at,
+            alloc, tokens, names, brackets, last, piece,
         ),
     }
 }
@@ -351,17 +332,13 @@ pub(crate) fn scan(
         if let Some(kind) = bad_kind(shape) {
             return Err(refusal(alloc, kind, span));
         }
-        put_piece(
-            alloc,
-            &mut levels,
-            &mut tokens,
-            names,
-            standing,
+        let piece = Piece {
             shape,
-            spelled,
-            span,
-        )?;
-        standing = standing_after(standing, shape, spelled, at, end);
+            text: spelled,
+            at: span,
+        };
+        put_piece(alloc, &mut levels, &mut tokens, names, standing, piece)?;
+        standing = standing_after(standing, piece);
         rest = after;
         at = end;
     }
