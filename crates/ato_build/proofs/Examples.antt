@@ -1,6 +1,6 @@
 -- Small cases, worked by hand.
 use Rattle.std.proofs.Common.{◌≡◌, [], ◌∷◌, ◌++◌, refl, arith}
-use Rattle.std.specs.Prelude.{ℕ, List, codes, Option, Some, None}
+use Rattle.std.specs.Prelude.{ℕ, List, codes, Option, Some, None, ◌==◌, if◌then◌else◌}
 use Rattle.std.specs.Fmt.{digits}
 use Rattle.ato_base.specs.declared.faults.FaultKind.TheVariants as kinds
 use Rattle.ato_base.specs.declared.places.Place.TheVariants as places
@@ -97,6 +97,18 @@ pub two_places : fault_text (files_with main_project (codes "a\nb\n"))
     ≡ codes "fault F28 DefinitionLoop main.ato:1:1 also main.ato:2:1\n"
 unfolding fault_text also_text place_in_text digits
 two_places = refl
+
+-- A fault in an instance names its path between the two.
+pub in_an_instance : fault_text (record { source = λ file. record { name = codes "main.ato"; bytes = codes "a\nb\n" }; catalogue = []; name = λ n. if n.0 == 5 then codes "top" else codes "left" })
+    (record {
+      kind = kinds.DefinitionLoop;
+      at = places.Source (record { file = entry_file; start = 0; end = 1 });
+      other = Some (places.Source (record { file = entry_file; start = 2; end = 3 }));
+      path = record { 0 = 5 } ∷ record { 0 = 6 } ∷ [];
+    })
+    ≡ codes "fault F28 DefinitionLoop main.ato:1:1 in top.left also main.ato:2:1\n"
+unfolding fault_text also_text place_in_text digits
+in_an_instance = refl
 
 -- The two texts of a check.
 pub accepted : accepted_text (codes "refuted") ≡ codes "accepted refuted\n"

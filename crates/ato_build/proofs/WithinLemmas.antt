@@ -1,5 +1,5 @@
 -- Every fault of an entry lies in its source.
-use Rattle.std.proofs.Common.{◌≡◌, ℕ, ◌≤◌, List, ◌∷◌, ◌++◌, length, ap, sym, subst, arith, inl, inr, length-append}
+use Rattle.std.proofs.Common.{◌≡◌, ℕ, ◌≤◌, List, [], ◌∷◌, ◌++◌, length, ap, sym, subst, arith, inl, inr, length-append}
 use Rattle.std.specs.Prelude.{Some, None, Bool, IfSome}
 use Rattle.std.proofs.lemmas.List.Concat.{flat_map-append}
 use Rattle.ato_base.specs.declared.faults.Fault.{Fault}
@@ -50,6 +50,13 @@ stands_alone project source f (inl (at, bad, same)) = ap (λ g. g.other) same
 stands_alone project source f (inr (inl (lacks, same))) = ap (λ g. g.other) same
 stands_alone project source f (inr (inr (block, is, named, inl (at, unknown, same)))) = ap (λ g. g.other) same
 stands_alone project source f (inr (inr (block, is, named, inr (known, (at, empty, same))))) = ap (λ g. g.other) same
+
+-- No fault of an entry has a path.
+pub stands_pathless : (project : Project) (source : List ℕ) (f : Fault) → StandsInEntry project (Whole source) f → f.path ≡ []
+stands_pathless project source f (inl (at, bad, same)) = ap (λ g. g.path) same
+stands_pathless project source f (inr (inl (lacks, same))) = ap (λ g. g.path) same
+stands_pathless project source f (inr (inr (block, is, named, inl (at, unknown, same)))) = ap (λ g. g.path) same
+stands_pathless project source f (inr (inr (block, is, named, inr (known, (at, empty, same))))) = ap (λ g. g.path) same
 
 pub alone_within : (source : List ℕ) (f : Fault) → f.other ≡ None → IfSome f.other (LiesWithin source)
 alone_within source f none = subst (λ o. IfSome o (LiesWithin source)) (sym none) tt

@@ -3,7 +3,6 @@ use Rattle.std.specs.Prelude.{◌≡◌, ℕ, List, Option, Some, None}
 use Rattle.ato_base.specs.Stages.{Reaches, StandsFrom}
 use Rattle.ato_base.specs.declared.faults.Fault.{Fault}
 use Rattle.ato_first.specs.declared.first_form.Block.{Block}
-use Rattle.ato_words.specs.declared.words.Build.{Build}
 use Rattle.ato_words.specs.declared.words.Check.{Check}
 use Rattle.ato_words.specs.declared.words.Task.{Task}
 use Rattle.ato_words.specs.declared.words.Task.TheVariants as tasks

@@ -1,5 +1,5 @@
 -- The problem that a certificate is about, of a part and a catalogue.
-use Rattle.std.specs.Prelude.{◌≡◌, ℕ, Option, Some, None}
+use Rattle.std.specs.Prelude.{◌≡◌, Option, Some, None}
 use Rattle.std.specs.List.{AllZip}
 use Rattle.ato_catalog.specs.Catalogue.{IsWhole}
 use Rattle.ato_catalog.specs.Contents.{Contents}

@@ -1,8 +1,10 @@
 -- The printed texts, as functions of what is printed and of the bytes that it lies in.
-use Rattle.std.specs.Prelude.{ℕ, ◌+◌, ◌≤◌, Bool, ◌||◌, not, ◌==◌, nat_lt, nat_le, List, [], ◌++◌, Option, Some, None, length, take, reverse, take_while, count_by, codes, string_bytes}
+use Rattle.std.specs.Prelude.{ℕ, ◌+◌, ◌≤◌, Bool, ◌||◌, not, ◌==◌, nat_lt, nat_le, List, [], ◌∷◌, ◌++◌, map, Option, Some, None, length, take, reverse, take_while, count_by, codes, string_bytes}
 use Rattle.std.specs.Fmt.{decimal}
+use Rattle.std.specs.List.{join_with_byte}
 use Rattle.ato_base.specs.Faults.{kind_number, kind_name}
 use Rattle.ato_base.specs.declared.faults.Fault.{Fault}
+use Rattle.ato_base.specs.declared.name_table.Name.{Name}
 use Rattle.ato_base.specs.declared.nets.NetList.{NetList}
 use Rattle.ato_base.specs.declared.places.FileId.{FileId}
 use Rattle.ato_base.specs.declared.places.Place.{Place}
@@ -39,14 +41,15 @@ pub record SourceFile : Type 0 where
   pub name : List ℕ
   pub bytes : List ℕ
 
--- the files in which faults may stand: the source files by their numbers, and the catalogue's name
+-- the files in which faults may stand: the source files by their numbers, and the catalogue's name; and the names by their numbers
 pub record FaultFiles : Type 0 where
   pub source : FileId → SourceFile
   pub catalogue : List ℕ
+  pub name : Name → List ℕ
 
--- the files of a project, whose one source file is the entry
+-- the files of a project, whose one source file is the entry. No fault has a path yet, so no name is looked up
 abbrev pub files_with : Project → List ℕ → FaultFiles
-files_with project source = record { source = λ file. record { name = project.file; bytes = source }; catalogue = project.catalogue }
+files_with project source = record { source = λ file. record { name = project.file; bytes = source }; catalogue = project.catalogue; name = λ name. [] }
 
 -- a place in a source file
 abbrev pub source_text : SourceFile → ℕ → List ℕ
@@ -58,16 +61,22 @@ place_text files (places.Source span) = source_text (files.source span.file) spa
 place_text files (places.Cell row column) = place_in_text files.catalogue row column
 place_text files (places.Word word) = word_text word
 
+-- the path of the instance in which a fault stands, where it has one
+abbrev pub in_text : FaultFiles → List Name → List ℕ
+in_text files [] = []
+in_text files (name ∷ path) = codes " in " ++ join_with_byte 46 (map files.name (name ∷ path))
+
 -- a second place, where there is one
 unfoldable pub also_text : FaultFiles → Option Place → List ℕ
 also_text files None = []
 also_text files (Some place) = codes " also " ++ place_text files place
 
--- the line of a fault. No fault has a path yet.
+-- the line of a fault
 unfoldable pub fault_text : FaultFiles → Fault → List ℕ
 fault_text files f =
     codes "fault F"
-    ++ (decimal (kind_number f.kind) ++ (codes " " ++ (kind_name f.kind ++ (codes " " ++ (place_text files f.at ++ (also_text files f.other ++ codes "\n"))))))
+    ++ (decimal (kind_number f.kind)
+    ++ (codes " " ++ (kind_name f.kind ++ (codes " " ++ (place_text files f.at ++ (in_text files f.path ++ (also_text files f.other ++ codes "\n")))))))
 
 -- the line of a fault that stands in the input of a task
 abbrev pub fault_line : Task → Input → Fault → List ℕ

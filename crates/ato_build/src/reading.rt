@@ -1,5 +1,5 @@
 //! The entry and the catalogue, which every command reads first.
-ghost use Rattle.std.specs.Prelude.{◌≡◌, ◌≤◌, Option, Err, IfOk, IfSome, length};
+ghost use Rattle.std.specs.Prelude.{◌≡◌, [], ◌≤◌, Option, Err, IfOk, IfSome, length};
 ghost use Rattle.ato_base.specs.declared.faults.Fault.{Fault};
 ghost use Rattle.ato_outside.specs.Causes.{Rose};
 ghost use Rattle.ato_outside.specs.Files.{Files};
@@ -55,6 +55,7 @@ fn fault_end(
 ) -> Result<Reading, NoMemory>
     requires at { LiesWithin source.now fault.at }
     requires other { IfSome fault.other (LiesWithin source.now) }
+    requires path { fault.path ≡ [] }
     ensures { IsFaultEnd project.now source.now fault result }
 {
     Ok(Reading::Ended(refuse(alloc, project, source, fault)?))

@@ -1,5 +1,5 @@
 //! The answers where the input has a fault or could not be read.
-ghost use Rattle.std.specs.Prelude.{◌≡◌, IfOk, IfSome};
+ghost use Rattle.std.specs.Prelude.{◌≡◌, [], IfOk, IfSome};
 ghost use Rattle.ato_build.specs.Texts.{fault_text, files_with, said_text, LiesWithin, read_fault_text};
 
 use crate::Status;
@@ -18,6 +18,7 @@ pub(crate) fn refuse(
 ) -> Result<Answer, NoMemory>
     requires at { LiesWithin source.now fault.at }
     requires other { IfSome fault.other (LiesWithin source.now) }
+    requires path { fault.path ≡ [] }
     ensures status { IfOk result (λ answer. answer.status ≡ Status.Fault fault) }
     ensures said { IfOk result (λ answer. said_text answer.said ≡ fault_text (files_with project.now source.now) fault) }
 {

@@ -1,4 +1,4 @@
-ghost use Rattle.std.specs.Prelude.{◌≡◌, ◌≤◌, IfOk, IfSome, length, string_bytes};
+ghost use Rattle.std.specs.Prelude.{◌≡◌, [], ◌≤◌, IfOk, IfSome, length, string_bytes};
 ghost use Rattle.ato_build.specs.Texts.{line_at, begins_char, column_at, place_in_text, word_text, files_with, place_text, also_text, fault_text, verdict_text, problem_text, summary_text, read_fault_text, accepted_text, rejected_text, usage_text, LiesWithin};
 
 use crate::project::Project;
@@ -105,6 +105,7 @@ pub(crate) fn fault_text(
 ) -> Result<String, NoMemory>
     requires at { LiesWithin source.now fault.now.at }
     requires other { IfSome fault.now.other (LiesWithin source.now) }
+    requires path { fault.now.path ≡ [] }
     ensures { IfOk result (λ text. string_bytes text ≡ fault_text (files_with project.now source.now) fault.now) }
 {
     let number = fault.kind.number();

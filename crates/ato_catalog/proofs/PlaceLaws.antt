@@ -19,6 +19,7 @@ pub record IsCellFault (f : Fault) : Type 0 where
   pub column : ℕ
   pub at : f.at ≡ places.Cell row column
   pub other : f.other ≡ None
+  pub path : f.path ≡ []
   pub kind : f.kind ≢ kinds.FileMissing
 
 -- the kind of what was found is another
@@ -69,7 +70,7 @@ row_differs layout before taken cells = by (nat_le most_rows before)
 found_in_cell : (row : ℕ) (found : Option (FaultKind × ℕ)) → Differs found → IfSome (option_map (λ f. fault_at f.0 row f.1) found) IsCellFault
 unfolding Differs
 found_in_cell row None h = tt
-found_in_cell row (Some f) h = record { row = row; column = f.1; at = refl; other = refl; kind = h }
+found_in_cell row (Some f) h = record { row = row; column = f.1; at = refl; other = refl; path = refl; kind = h }
 
 either_in_cell : (a b : Option Fault) → IfSome a IsCellFault → IfSome b IsCellFault → IfSome (option_or a b) IsCellFault
 either_in_cell None b h k = k
@@ -94,7 +95,7 @@ unless_right None layout rows h = tt
 unless_right (Some f) layout rows h = h
 
 header_fault : IsCellFault (fault_at kinds.NoHeader 0 0)
-header_fault = record { row = 0; column = 0; at = refl; other = refl; kind = no_header_missing }
+header_fault = record { row = 0; column = 0; at = refl; other = refl; path = refl; kind = no_header_missing }
 
 records_right : (records : List (List (List ℕ))) → IsRight (contents_in records)
 unfolding IsRight contents_in

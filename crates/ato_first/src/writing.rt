@@ -11,6 +11,7 @@ use crate::part_writing::{push_assertion, push_attribute, push_kind};
 use crate::statements::{EndText, PointText, Statement};
 use ato_base::{FileId, Keyword, List, Mark, NameTable, NoMemory, Span, Token, TokenKind};
 
+/// The bytes of a file from one up to another.
 pub(crate) fn span(file: FileId, start: usize, end: usize) -> Span
     requires start { start < 2 ^ 32 }
     requires end { end < 2 ^ 32 }
@@ -99,6 +100,7 @@ pub(crate) fn push_number(
     Ok(stop)
 }
 
+/// Puts a keyword from one byte of the file up to another behind the others.
 pub(crate) fn push_keyword(
     tokens: &mut List<Token>,
     file: FileId,
@@ -113,6 +115,7 @@ pub(crate) fn push_keyword(
     push(tokens, file, TokenKind::Keyword(keyword), start, end)
 }
 
+/// Puts a mark from one byte of the file up to another behind the others.
 pub(crate) fn push_mark(
     tokens: &mut List<Token>,
     file: FileId,

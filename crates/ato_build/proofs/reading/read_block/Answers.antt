@@ -2,7 +2,7 @@ use Rattle.std.proofs.Common.{subst, sym, ◌∙◌}
 use Rattle.ato_build.specs.Entry.{IsEntryRefusal, StandsInEntry}
 use Rattle.ato_build.specs.Found.{Whole}
 use Rattle.ato_build.proofs.ReadingLemmas.{entry_end}
-use Rattle.ato_build.proofs.WithinLemmas.{stands_within, stands_alone, alone_within}
+use Rattle.ato_build.proofs.WithinLemmas.{stands_within, stands_alone, stands_pathless, alone_within}
 use Rattle.ato_build.proofs.reading.read_block.Goals as goal
 
 pub fault_end-requires : goal.fault_end-requires
@@ -12,6 +12,7 @@ fault_end-requires g c =
     record {
       at = stands_within c.args.project.now c.as_slice-in-Fault.result.now c.in-Fault.fault stands;
       other = alone_within c.as_slice-in-Fault.result.now c.in-Fault.fault (stands_alone c.args.project.now c.as_slice-in-Fault.result.now c.in-Fault.fault stands);
+      path = stands_pathless c.args.project.now c.as_slice-in-Fault.result.now c.in-Fault.fault stands;
     }
 
 pub returns-in-Fault-clause-reading : goal.returns-in-Fault-clause-reading

@@ -8,7 +8,7 @@ use Rattle.ato_build.proofs.reading.sources_of.Goals as goal
 pub fault_end-requires : goal.fault_end-requires
 fault_end-requires c =
     let cell = in_cell c.args.bytes.now c.in-Fault.fault (subst (IsRefused c.args.bytes.now) c.in-Fault.is c.in-Err.ensures.fault) in
-    record { at = cell_within c.as_slice.result.now c.in-Fault.fault cell; other = alone_within c.as_slice.result.now c.in-Fault.fault cell.other }
+    record { at = cell_within c.as_slice.result.now c.in-Fault.fault cell; other = alone_within c.as_slice.result.now c.in-Fault.fault cell.other; path = cell.path }
 
 pub returns-in-Fault-clause-reading : goal.returns-in-Fault-clause-reading
 returns-in-Fault-clause-reading c =
