@@ -1,0 +1,15 @@
+pub mod Depths
+pub mod Expressions
+pub mod Faults
+pub mod FileReading
+pub mod Files
+pub mod Input
+pub mod Kinds
+pub mod Nesting
+pub mod Parts
+pub mod Pieces
+pub mod Placing
+pub mod Reading
+pub mod Statements
+pub mod TokenPieces
+pub mod Tokens
