@@ -1,0 +1,125 @@
+use crate::edits::{At, GOOD, HERE, NEXT};
+
+/// A good file.
+pub(crate) const SOURCE: &str = "import ElectricPower, Resistor
+from 'led.ato' import Led; pass
+component Chip from Base:
+    'A chip.'
+    signal a ~ pin 1; pin '2'
+module Top:
+    led = new Led
+    power.hv ~ led.a.1;
+    v: V = -5V to 3.3V
+    i.max = (v - 2) / min(r, abs(x)) ** 2
+    led -> Red
+    assert i within 1mA +/- 5% | 2
+";
+
+/// How a token is written, and where the fault stands where it is left out, doubled, exchanged with the one
+/// behind it, or replaced by `)`.
+pub(crate) type Row = (&'static str, At, At, At, At);
+
+/// The tokens of the file but END. The last one is not exchanged, since END has to stay at the end.
+pub(crate) const ROWS: &[Row] = &[
+    ("import", HERE, NEXT, HERE, HERE),
+    ("ElectricPower", HERE, NEXT, HERE, HERE),
+    (",", HERE, NEXT, HERE, HERE),
+    ("Resistor", HERE, NEXT, HERE, HERE),
+    ("NEWLINE", HERE, NEXT, HERE, HERE),
+    ("from", NEXT, NEXT, NEXT, HERE),
+    ("'led.ato'", HERE, NEXT, HERE, HERE),
+    ("import", HERE, NEXT, HERE, HERE),
+    ("Led", HERE, NEXT, HERE, HERE),
+    (";", HERE, NEXT, HERE, HERE),
+    ("pass", GOOD, NEXT, Some(2), HERE),
+    ("NEWLINE", HERE, NEXT, HERE, HERE),
+    ("component", HERE, NEXT, HERE, HERE),
+    ("Chip", HERE, NEXT, HERE, HERE),
+    ("from", HERE, NEXT, HERE, HERE),
+    ("Base", HERE, NEXT, HERE, HERE),
+    (":", HERE, NEXT, HERE, HERE),
+    ("NEWLINE", HERE, NEXT, HERE, HERE),
+    ("INDENT", HERE, NEXT, HERE, HERE),
+    ("'A chip.'", HERE, NEXT, HERE, HERE),
+    ("NEWLINE", HERE, NEXT, HERE, HERE),
+    ("signal", GOOD, NEXT, NEXT, HERE),
+    ("a", HERE, NEXT, HERE, HERE),
+    ("~", HERE, NEXT, HERE, HERE),
+    ("pin", HERE, NEXT, HERE, HERE),
+    ("1", HERE, NEXT, HERE, HERE),
+    (";", HERE, NEXT, HERE, HERE),
+    ("pin", GOOD, NEXT, NEXT, HERE),
+    ("'2'", HERE, NEXT, HERE, HERE),
+    ("NEWLINE", HERE, NEXT, HERE, HERE),
+    ("DEDENT", HERE, NEXT, HERE, HERE),
+    ("module", HERE, NEXT, HERE, HERE),
+    ("Top", HERE, NEXT, HERE, HERE),
+    (":", HERE, NEXT, HERE, HERE),
+    ("NEWLINE", HERE, NEXT, HERE, HERE),
+    ("INDENT", HERE, NEXT, HERE, HERE),
+    ("led", HERE, NEXT, HERE, HERE),
+    ("=", HERE, NEXT, HERE, HERE),
+    ("new", GOOD, NEXT, NEXT, HERE),
+    ("Led", HERE, NEXT, HERE, HERE),
+    ("NEWLINE", HERE, NEXT, HERE, HERE),
+    ("power", HERE, NEXT, HERE, HERE),
+    (".", HERE, NEXT, HERE, HERE),
+    ("hv", HERE, NEXT, HERE, HERE),
+    ("~", HERE, NEXT, HERE, HERE),
+    ("led", HERE, NEXT, HERE, HERE),
+    (".", HERE, NEXT, HERE, HERE),
+    ("a", HERE, NEXT, HERE, HERE),
+    (".", HERE, NEXT, HERE, HERE),
+    ("1", HERE, NEXT, HERE, HERE),
+    (";", GOOD, NEXT, NEXT, HERE),
+    ("NEWLINE", GOOD, NEXT, NEXT, HERE),
+    ("v", HERE, NEXT, HERE, HERE),
+    (":", HERE, NEXT, HERE, HERE),
+    ("V", HERE, NEXT, HERE, HERE),
+    ("=", HERE, NEXT, HERE, HERE),
+    ("-", GOOD, NEXT, Some(3), HERE),
+    ("5", HERE, NEXT, HERE, HERE),
+    ("V", GOOD, NEXT, NEXT, HERE),
+    ("to", HERE, NEXT, HERE, HERE),
+    ("3.3", HERE, NEXT, HERE, HERE),
+    ("V", GOOD, NEXT, Some(2), HERE),
+    ("NEWLINE", HERE, NEXT, HERE, HERE),
+    ("i", HERE, NEXT, HERE, HERE),
+    (".", HERE, NEXT, HERE, HERE),
+    ("max", HERE, NEXT, HERE, HERE),
+    ("=", HERE, NEXT, HERE, HERE),
+    ("(", Some(3), Some(18), NEXT, HERE),
+    ("v", GOOD, NEXT, NEXT, HERE),
+    ("-", HERE, GOOD, HERE, NEXT),
+    ("2", HERE, NEXT, HERE, HERE),
+    (")", Some(12), NEXT, NEXT, GOOD),
+    ("/", HERE, NEXT, HERE, HERE),
+    ("min", Some(2), NEXT, Some(2), HERE),
+    ("(", HERE, Some(3), HERE, HERE),
+    ("r", HERE, NEXT, HERE, HERE),
+    (",", HERE, NEXT, HERE, NEXT),
+    ("abs", GOOD, NEXT, Some(2), HERE),
+    ("(", HERE, Some(7), HERE, NEXT),
+    ("x", HERE, NEXT, HERE, HERE),
+    (")", Some(3), Some(2), GOOD, GOOD),
+    (")", Some(2), NEXT, NEXT, GOOD),
+    ("**", HERE, NEXT, HERE, HERE),
+    ("2", HERE, NEXT, HERE, HERE),
+    ("NEWLINE", HERE, NEXT, HERE, HERE),
+    ("led", HERE, NEXT, HERE, HERE),
+    ("->", HERE, NEXT, HERE, HERE),
+    ("Red", HERE, NEXT, HERE, HERE),
+    ("NEWLINE", HERE, NEXT, HERE, HERE),
+    ("assert", NEXT, NEXT, NEXT, HERE),
+    ("i", HERE, NEXT, HERE, HERE),
+    ("within", HERE, NEXT, HERE, HERE),
+    ("1", HERE, NEXT, HERE, HERE),
+    ("mA", GOOD, NEXT, NEXT, HERE),
+    ("+/-", HERE, NEXT, HERE, HERE),
+    ("5", HERE, NEXT, HERE, HERE),
+    ("%", GOOD, NEXT, NEXT, HERE),
+    ("|", HERE, NEXT, HERE, HERE),
+    ("2", HERE, NEXT, HERE, HERE),
+    ("NEWLINE", HERE, NEXT, HERE, HERE),
+    ("DEDENT", HERE, NEXT, HERE, HERE),
+];
