@@ -1,8 +1,13 @@
-use Rattle.std.specs.Prelude.{◌≢◌, ◌⊎◌, ℕ, List, take, Option, Result, Ok, Err, IfSome, refl}
+use Rattle.std.specs.Prelude.{◌≡◌, ◌≢◌, ◌<◌, ◌⊎◌, ℕ, List, length, take, Option, Result, Ok, Err, IfSome, refl}
+use Rattle.std.specs.Path.{path_join}
 use Rattle.std.specs.Coded.{Coded, code_by, coded×, coded_list, coded_ℕ}
 use Rattle.std.specs.Io.KnownBytes.{Appends}
 use Rattle.ato_outside.specs.declared.system.OpenError.{OpenError}
 use Rattle.ato_outside.specs.declared.system.OpenError.TheVariants.{Missing}
+use Rattle.ato_outside.specs.declared.shelf.Got.{Got}
+use Rattle.ato_outside.specs.declared.shelf.Got.TheVariants as got
+use Rattle.ato_outside.specs.declared.shelf.ShelfError.{ShelfError}
+use Rattle.ato_outside.specs.declared.shelf.ShelfError.TheVariants as errors
 
 -- what is told of a real folder as a shelf: the system that it asks, its path, how many calls failed, and how many missed
 pub record FolderShelf (S : Type 0) : Type 0 where
@@ -37,6 +42,21 @@ ReadsFile {S} {F} opens remaining before path after Held = (file : F) × opens b
 -- What a read that failed did: it opened the path or was refused there, and the path was not missing.
 abbrev pub StopsReading : {S F : Type 0} → (S → List ℕ → Result F OpenError → S → Type 0) → S → List ℕ → S → Type 0
 StopsReading {S} {F} opens before path after = (answer : Result F OpenError) × opens before path answer after × (answer ≢ Err Missing)
+
+-- What a read at a path did, by its answer. Whole and too long are answers about the file that was opened there: the bytes are its own, or it has
+-- too many. Missing is what the system answered. A read without memory opened the path, or asked for nothing.
+abbrev pub ReadsPath : {S F : Type 0} → (S → List ℕ → Result F OpenError → S → Type 0) → (F → Option (List ℕ)) → S → List ℕ → ℕ → Result Got ShelfError → List ℕ → S → Type 0
+ReadsPath opens remaining before path limit (Ok got.Whole) bytes after = ReadsFile opens remaining before path after (λ rest. bytes ≡ rest)
+ReadsPath opens remaining before path limit (Ok got.TooLong) bytes after = ReadsFile opens remaining before path after (λ rest. limit < length rest)
+ReadsPath opens remaining before path limit (Ok got.Missing) bytes after = opens before path (Err Missing) after
+ReadsPath opens remaining before path limit (Err errors.Failed) bytes after = StopsReading opens before path after
+ReadsPath {S} {F} opens remaining before path limit (Err errors.NoMemory) bytes after = (after ≡ before) ⊎ ((file : F) × opens before path (Ok file) after)
+
+-- A call on a real folder as a shelf: it reads at the path of the name.
+pub record GetsFromFolder {S F : Type 0} (opens : S → List ℕ → Result F OpenError → S → Type 0) (remaining : F → Option (List ℕ)) (old : FolderShelf S) (name : List ℕ) (limit : ℕ)
+    (answer : Result Got ShelfError) (bytes : List ℕ) (new : FolderShelf S) : Type 0 where
+  pub folder : new.folder ≡ old.folder
+  pub read : ReadsPath opens remaining old.system (path_join old.folder name) limit answer bytes new.system
 
 -- A file was created at the path, took the bytes after what it held, and was closed. Nothing else was done.
 abbrev pub WritesFile : {S F : Type 0} → (S → List ℕ → Result F OpenError → S → Type 0) → (S → F → S → Type 0) → (F → Option (List ℕ)) → S → List ℕ → List ℕ → S → Type 0

@@ -1,6 +1,7 @@
 pub mod Causes
 pub mod Files
 pub mod Numbered
+pub mod Replies
 pub mod Shelf
 pub mod Tray
 pub mod Sink

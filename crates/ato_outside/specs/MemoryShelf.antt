@@ -1,8 +1,10 @@
 use Rattle.std.specs.Prelude.{◌≡◌, ℕ, Bool, true, false, List, Result, Ok, Err, refl}
+use Rattle.std.specs.FinMap as map
 use Rattle.std.specs.Coded.{Coded, code_by, coded×, coded_list, coded_ℕ}
 use Rattle.ato_outside.specs.Files.{Files, files_code}
 use Rattle.ato_outside.specs.Causes.{next_count}
 use Rattle.ato_outside.specs.Numbered.{is_listed}
+use Rattle.ato_outside.specs.Shelf.{IsAnswer, Fits}
 use Rattle.ato_outside.specs.declared.shelf.Got.{Got}
 use Rattle.ato_outside.specs.declared.shelf.Got.TheVariants.{Whole, Missing, TooLong}
 use Rattle.ato_outside.specs.declared.shelf.ShelfError.{ShelfError}
@@ -43,3 +45,9 @@ GetsByNumber false old new (Ok Missing) = new ≡ record (called old) { misses =
 GetsByNumber false old new (Ok TooLong) = new ≡ called old
 GetsByNumber false old new (Err Failed) = ⊥
 GetsByNumber false old new (Err NoMemory) = new ≡ called old
+
+-- A call on a shelf in memory: the answer is that of its files, and the shelf is as the call leaves it.
+pub record GetsInMemory (old : MemoryShelf) (name : List ℕ) (limit : ℕ) (answer : Result Got ShelfError) (bytes : List ℕ) (new : MemoryShelf) : Type 0 where
+  pub told : IsAnswer (map.get old.files name) limit answer bytes
+  pub room : Fits limit answer bytes
+  pub numbered : GetsByNumber (is_failing old) old new answer

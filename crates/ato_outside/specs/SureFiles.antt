@@ -1,7 +1,9 @@
-use Rattle.std.specs.Prelude.{◌≡◌, ℕ, Result, Ok, Err, refl}
+use Rattle.std.specs.Prelude.{◌≡◌, ℕ, List, Result, Ok, Err, refl}
+use Rattle.std.specs.FinMap as map
 use Rattle.std.specs.Coded.{Coded, code_by, coded×, coded_ℕ}
 use Rattle.ato_outside.specs.Files.{Files, files_code}
 use Rattle.ato_outside.specs.Causes.{next_count}
+use Rattle.ato_outside.specs.Shelf.{IsAnswer, Fits}
 use Rattle.ato_outside.specs.declared.shelf.Got.{Got}
 use Rattle.ato_outside.specs.declared.shelf.Got.TheVariants.{Whole, Missing, TooLong}
 use Rattle.ato_outside.specs.declared.shelf.ShelfError.{ShelfError}
@@ -24,3 +26,9 @@ GetsSurely old new (Ok Missing) = new ≡ record old { misses = next_count old.m
 GetsSurely old new (Ok TooLong) = new ≡ old
 GetsSurely old new (Err Failed) = ⊥
 GetsSurely old new (Err NoMemory) = new ≡ old
+
+-- A call on such a shelf: the answer is that of its files, and the shelf is as the call leaves it.
+pub record GetsFromSureFiles (old : SureFiles) (name : List ℕ) (limit : ℕ) (answer : Result Got ShelfError) (bytes : List ℕ) (new : SureFiles) : Type 0 where
+  pub told : IsAnswer (map.get old.files name) limit answer bytes
+  pub room : Fits limit answer bytes
+  pub sure : GetsSurely old new answer

@@ -1,7 +1,7 @@
 ghost use Rattle.std.specs.Prelude.{◌≡◌, ◌≢◌, ◌≤◌, ◌<◌, length, IfSome, IsErrOf};
 ghost use Rattle.std.specs.Path.{path_join};
 ghost use Rattle.ato_outside.specs.Causes.{Counts};
-ghost use Rattle.ato_outside.specs.Folder.{ReadsFile, StopsReading};
+ghost use Rattle.ato_outside.specs.Folder.{GetsFromFolder, ReadsPath};
 ghost use Rattle.ato_outside.specs.Shelf.{IsAnswer, Fits};
 
 use crate::{Got, OpenError, Shelf, ShelfError, System};
@@ -105,10 +105,7 @@ fn read_file<S: System>(
     into: &mut Vec<u8>,
 ) -> Result<Got, ShelfError>
     ensures room { result ≡ Ok Got.Whole → length into.new.items ≤ limit }
-    ensures whole { result ≡ Ok Got.Whole → ReadsFile S.opens S.File.remaining system.old (path_join folder.now name.now) system.new (λ rest. into.new.items ≡ rest) }
-    ensures too_long { result ≡ Ok Got.TooLong → ReadsFile S.opens S.File.remaining system.old (path_join folder.now name.now) system.new (λ rest. limit < length rest) }
-    ensures missing { result ≡ Ok Got.Missing → S.opens system.old (path_join folder.now name.now) (Err OpenError.Missing) system.new }
-    ensures failed { result ≡ Err ShelfError.Failed → StopsReading S.opens system.old (path_join folder.now name.now) system.new }
+    ensures read { ReadsPath S.opens S.File.remaining system.old (path_join folder.now name.now) limit result into.new.items system.new }
 {
     let alloc = *into.allocator();
     let Ok(path) = Path::new(folder).join(alloc, name) else {
@@ -124,6 +121,8 @@ fn read_file<S: System>(
 impl<'a, S: System> Shelf for DirShelf<'a, S> {
     ghost use Rattle.std.specs.Prelude.{None};
 
+    ghost gets = { GetsFromFolder S.opens S.File.remaining };
+
     ghost files = { λ _. None };
 
     ghost faults = { λ s. s.faults };
@@ -131,17 +130,10 @@ impl<'a, S: System> Shelf for DirShelf<'a, S> {
     ghost misses = { λ s. s.misses };
 
     fn get(&mut self, name: &str, limit: usize, into: &mut Vec<u8>) -> Result<Got, ShelfError>
+        ensures asked { GetsFromFolder S.opens S.File.remaining self.old name.now limit result into.new.items self.new }
         ensures room { Fits limit result into.new.items }
         ensures faults { Counts self.old.faults self.new.faults (IsErrOf result ShelfError.Failed) }
         ensures misses { Counts self.old.misses self.new.misses (result ≡ Ok Got.Missing) }
-        ensures folder { self.new.folder ≡ self.old.folder }
-        // Whole and too long are answers about the file that this call opened at the path of the name: the bytes are its
-        // own, or it has too many. Missing is what the system answered there.
-        ensures whole { result ≡ Ok Got.Whole → ReadsFile S.opens S.File.remaining self.old.system (path_join self.old.folder name.now) self.new.system (λ rest. into.new.items ≡ rest) }
-        ensures too_long { result ≡ Ok Got.TooLong → ReadsFile S.opens S.File.remaining self.old.system (path_join self.old.folder name.now) self.new.system (λ rest. limit < length rest) }
-        ensures missing { result ≡ Ok Got.Missing → S.opens self.old.system (path_join self.old.folder name.now) (Err OpenError.Missing) self.new.system }
-        // Only after the path was asked for and was not missing is the call a failure.
-        ensures failed { result ≡ Err ShelfError.Failed → StopsReading S.opens self.old.system (path_join self.old.folder name.now) self.new.system }
     {
         let answer = read_file(&mut self.system, self.folder, name, limit, into);
         match answer {

@@ -3,7 +3,7 @@ ghost use Rattle.std.specs.FinMap as map;
 ghost use Rattle.ato_outside.specs.Files.{files_of};
 ghost use Rattle.ato_outside.specs.Causes.{Counts};
 ghost use Rattle.ato_outside.specs.Shelf.{IsAnswer, Fits};
-ghost use Rattle.ato_outside.specs.MemoryShelf.{GetsByNumber, is_failing};
+ghost use Rattle.ato_outside.specs.MemoryShelf.{GetsInMemory, GetsByNumber, is_failing};
 
 use crate::entries::Entries;
 use crate::numbered::is_listed;
@@ -79,6 +79,8 @@ impl MemShelf {
 impl Shelf for MemShelf {
     ghost use Rattle.std.specs.Prelude.{Some};
 
+    ghost gets = { GetsInMemory };
+
     ghost files = { λ s. Some s.files };
 
     ghost faults = { λ s. s.faults };
@@ -86,6 +88,7 @@ impl Shelf for MemShelf {
     ghost misses = { λ s. s.misses };
 
     fn get(&mut self, name: &str, limit: usize, into: &mut Vec<u8>) -> Result<Got, ShelfError>
+        ensures asked { GetsInMemory self.old name.now limit result into.new.items self.new }
         ensures same { self.new.files ≡ self.old.files }
         ensures told { IsAnswer (map.get self.old.files name.now) limit result into.new.items }
         ensures room { Fits limit result into.new.items }

@@ -1,8 +1,10 @@
-ghost use Rattle.std.specs.Prelude.{◌≡◌, ℕ, Option, IfSome, IsErrOf};
+ghost use Rattle.std.specs.Prelude.{◌≡◌, ℕ, List, Option, Result, IfSome, IsErrOf};
 ghost use Rattle.std.specs.FinMap as map;
 ghost use Rattle.ato_outside.specs.Files.{Files};
 ghost use Rattle.ato_outside.specs.Causes.{Counts};
 ghost use Rattle.ato_outside.specs.Shelf.{IsAnswer, Fits};
+ghost use Rattle.ato_outside.specs.declared.shelf.Got.{Got};
+ghost use Rattle.ato_outside.specs.declared.shelf.ShelfError.{ShelfError};
 
 use thiserror::Error;
 
@@ -29,7 +31,14 @@ pub enum ShelfError {
 }
 
 /// Where files come from.
+///
+/// What a call does is a relation that an implementation tells. Code that is generic over it can
+/// show that a call took place only by making it.
 pub trait Shelf {
+    /// A call: the state before, the name, the limit, the answer with the bytes that came with it,
+    /// and the state after.
+    ghost gets: { Self → List ℕ → ℕ → Result Got ShelfError → List ℕ → Self → Type 0 };
+
     /// The files that it holds, where it tells them.
     ghost files: { Self → Option Files };
 
@@ -45,6 +54,7 @@ pub trait Shelf {
     /// call that answers Missing raises the count of misses, and only one that answers Failed the
     /// count of faults. The files stay as they are.
     fn get(&mut self, name: &str, limit: usize, into: &mut Vec<u8>) -> Result<Got, ShelfError>
+        ensures asked { gets self.old name.now limit result into.new.items self.new }
         ensures same { files self.new ≡ files self.old }
         ensures told { IfSome (files self.old)
             (λ held. IsAnswer (map.get held name.now) limit result into.new.items) }

@@ -3,7 +3,7 @@ ghost use Rattle.std.specs.FinMap as map;
 ghost use Rattle.ato_outside.specs.Files.{files_of};
 ghost use Rattle.ato_outside.specs.Causes.{Counts};
 ghost use Rattle.ato_outside.specs.Shelf.{IsAnswer, Fits};
-ghost use Rattle.ato_outside.specs.SureFiles.{GetsSurely};
+ghost use Rattle.ato_outside.specs.SureFiles.{GetsFromSureFiles, GetsSurely};
 
 use crate::entries::Entries;
 use crate::{Got, Shelf, ShelfError};
@@ -51,6 +51,8 @@ impl SureShelf {
 impl Shelf for SureShelf {
     ghost use Rattle.std.specs.Prelude.{Some};
 
+    ghost gets = { GetsFromSureFiles };
+
     ghost files = { λ s. Some s.files };
 
     ghost faults = { λ _. 0 };
@@ -58,6 +60,7 @@ impl Shelf for SureShelf {
     ghost misses = { λ s. s.misses };
 
     fn get(&mut self, name: &str, limit: usize, into: &mut Vec<u8>) -> Result<Got, ShelfError>
+        ensures asked { GetsFromSureFiles self.old name.now limit result into.new.items self.new }
         ensures same { self.new.files ≡ self.old.files }
         ensures told { IsAnswer (map.get self.old.files name.now) limit result into.new.items }
         ensures room { Fits limit result into.new.items }
