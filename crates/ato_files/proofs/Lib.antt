@@ -8,6 +8,7 @@ pub mod ClimbLemmas
 pub mod EndingLemmas
 pub mod FaultKindLaws
 pub mod FaultLaws
+pub mod FetchLaws
 pub mod FileFaultLaws
 pub mod FileLaws
 pub mod FileMapLemmas
@@ -44,8 +45,10 @@ pub mod ProjectLaws
 pub mod PushLemmas
 pub mod ReachLaws
 pub mod ReadingLaws
+pub mod ReplyLaws
 pub mod StageLaws
 pub mod StringLaws
 pub mod TableLaws
 pub mod TextRows
 pub mod WalkLaws
+pub mod Written

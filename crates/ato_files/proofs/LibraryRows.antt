@@ -6,7 +6,7 @@ use Rattle.ato_ast.specs.declared.blocks.Item.{Item}
 use Rattle.ato_ast.specs.declared.blocks.Head.TheVariants as head
 use Rattle.ato_ast.specs.declared.blocks.BlockKind.TheVariants.{Module, Component}
 use Rattle.ato_files.specs.declared.program.SourceFile.{SourceFile}
-use Rattle.ato_files.specs.Written.{span, nm, quoted, heads, block, source}
+use Rattle.ato_files.proofs.Written.{span, nm, quoted, heads, block, source}
 use Rattle.ato_files.specs.Blocks.{blocks_of, meaning}
 use Rattle.ato_files.specs.Lineages.{lineage}
 use Rattle.ato_files.specs.Faults.{fault}

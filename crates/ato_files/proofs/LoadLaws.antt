@@ -1,20 +1,24 @@
 -- What an answer of the shelf and the reading of a file say of loading.
-use Rattle.std.proofs.Common.{◌≡◌, ℕ, zero, suc, Bool, true, false, ◌&&◌, List, [], ◌∷◌, length, Option, Some, None, refl, sym, ap, subst, ◌∙◌, nat_lt, if◌then◌else◌, arith}
+use Rattle.std.proofs.Common.{◌≡◌, ℕ, zero, suc, Bool, true, false, ◌&&◌, List, [], ◌∷◌, length, Option, Some, None, Ok, Err, refl, sym, ap, subst, ◌∙◌, nat_lt, if◌then◌else◌, arith}
 use Rattle.std.specs.Prelude.{is_some}
 use Rattle.std.proofs.lemmas.Bool.Decides.{nat_tests}
 use Rattle.ato_base.specs.declared.faults.Fault.{Fault}
 use Rattle.ato_base.specs.declared.faults.FaultKind.TheVariants as kinds
 use Rattle.ato_outside.specs.Files.{Files}
+use Rattle.ato_outside.specs.Replies.{Reply}
+use Rattle.ato_outside.specs.declared.shelf.Got.TheVariants as got
+use Rattle.ato_outside.specs.declared.shelf.ShelfError.TheVariants as errors
 use Rattle.ato_words.specs.PlainNames.{is_plain}
 use Rattle.ato_files.specs.declared.fetching.Found.{Found}
 use Rattle.ato_files.specs.declared.fetching.Found.TheVariants as found
-use Rattle.ato_files.specs.Answers.{ForHeld, IsAsked}
-use Rattle.ato_files.specs.Fetching.{IsFound, IsFoundBy, NoFile, not_plain, missing, too_long}
+use Rattle.ato_files.specs.Answers.{ForHeld, AreHalted, before_call, in_call, behind_call}
+use Rattle.ato_files.specs.Fetching.{IsFound, IsFoundBy, NoFile, not_plain, missing, too_long, NoRoom, not_asked, in_the_call, was_missing, was_long}
 use Rattle.ato_files.specs.Files.{known, next_name}
-use Rattle.ato_files.specs.LoadSteps.{FaultBehind}
+use Rattle.ato_files.specs.LoadSteps.{FaultBehind, UnreadBehind, HaltedBehind}
 use Rattle.ato_files.specs.Loading.{Held, Loaded, all_files, next_id, most_bytes, most_files, overflow, IsStart, IsRead, AreNext, IsNextFile, LeadsOn, FileFault, file_fault, readable, with_bytes}
 use Rattle.ato_files.specs.Loading as loads
 use Rattle.ato_files.specs.Programs.{Loading, IsReached}
+use Rattle.ato_files.specs.Replies.{bare, whole, reply_at, next_replies}
 use Rattle.ato_files.specs.Walks.{no_tokens, no_tree, HasNoNext, has_none, has_many}
 use Rattle.ato_files.proofs.HeldLaws.{with_held, held_there, reached_whatever}
 
@@ -56,7 +60,11 @@ module _ (entry : List ℕ) (l : Loaded) (name : List ℕ) where
 
   answered : (told : Option Files) (f : Found) → next_name entry l.files ≡ Some name → Knows told → IsFoundBy told name f → ForHeld told (λ held. IsAnswered held f)
   answered (Some files) f next h is =
-      record { held = h.held; holds = h.holds; is = record { reached = h.is; found = subst (λ o. IsFound o f) (sym (h.holds name)) is } }
+      record {
+        held = h.held;
+        holds = h.holds;
+        is = record { reached = h.is; found = subst (λ o. IsFound o f) (sym (ap (λ (held : Held). held name) h.holds)) is };
+      }
   answered None f next h is =
       record {
         held = with_held entry h.held name (some_held f);
@@ -67,46 +75,78 @@ module _ (entry : List ℕ) (l : Loaded) (name : List ℕ) where
         };
       }
 
+  -- ---- replies for the next name
+
+  pub no_reply : (held : Held) → next_name entry l.files ≡ Some name → is_plain name ≡ false → next_replies held (next_name entry l.files) ≡ []
+  no_reply held next plain = ap (next_replies held) next ∙ ap (λ b. if b then reply_at name (held name) ∷ [] else []) plain
+
+  one_reply : (held : Held) (o : Option (List ℕ)) → next_name entry l.files ≡ Some name → is_plain name ≡ true → held name ≡ o → next_replies held (next_name entry l.files) ≡ reply_at name o ∷ []
+  one_reply held o next plain is =
+      ap (next_replies held) next ∙ ap (λ b. if b then reply_at name (held name) ∷ [] else []) plain ∙ ap (λ found. reply_at name found ∷ []) is
+
+  long_reply : (held : Held) (file : List ℕ) → next_name entry l.files ≡ Some name → is_plain name ≡ true → held name ≡ Some file → nat_lt most_bytes (length file) ≡ true
+      → next_replies held (next_name entry l.files) ≡ bare name (Ok got.TooLong) ∷ []
+  long_reply held file next plain is long = one_reply held (Some file) next plain is ∙ ap (λ b. (if b then bare name (Ok got.TooLong) else whole name file) ∷ []) long
+
+  read_reply : (bytes : List ℕ) (held : Held) → IsRead held entry l name bytes → next_replies held (next_name entry l.files) ≡ whole name bytes ∷ []
+  read_reply bytes held r = one_reply held (Some bytes) r.next r.plain r.holds ∙ ap (λ b. (if b then bare name (Ok got.TooLong) else whole name bytes) ∷ []) r.short
+
   -- ---- the next name has no file
 
-  lacks_plain : (held : Held) → next_name entry l.files ≡ Some name → is_plain name ≡ false → IsReached held entry (Loading l) → FaultBehind held entry l (file_fault kinds.FileMissing name l.files) None
+  lacks_plain : (held : Held) → next_name entry l.files ≡ Some name → is_plain name ≡ false → IsReached held entry (Loading l) → FaultBehind held entry l (file_fault kinds.FileMissing name l.files) None []
   lacks_plain held next plain reached = record {
     reached = reached;
     fault = loads.missing {name = name} next (ap (λ b. b && is_some (held name)) plain);
     source = ap (readable held entry) next ∙ ap (λ b. if b then with_bytes held entry name (held name) else []) plain;
+    replies_are = sym (no_reply held next plain);
   }
 
   not_there : (b : Bool) → (b && false) ≡ false
   not_there true = refl
   not_there false = refl
 
-  lacks_file : (held : Held) → next_name entry l.files ≡ Some name → is_plain name ≡ true → IsAnswered held found.Missing → FaultBehind held entry l (file_fault kinds.FileMissing name l.files) None
+  lacks_file : (held : Held) → next_name entry l.files ≡ Some name → is_plain name ≡ true → IsAnswered held found.Missing → FaultBehind held entry l (file_fault kinds.FileMissing name l.files) None (bare name (Ok got.Missing) ∷ [])
   lacks_file held next plain a = record {
     reached = a.reached;
     fault = loads.missing {name = name} next (ap (λ o. is_plain name && is_some o) a.found ∙ not_there (is_plain name));
     source = ap (readable held entry) next ∙ ap (λ b. if b then with_bytes held entry name (held name) else []) plain ∙ ap (with_bytes held entry name) a.found;
+    replies_are = sym (one_reply held None next plain a.found);
   }
 
-  has_long : (held : Held) → next_name entry l.files ≡ Some name → is_plain name ≡ true → IsAnswered held found.TooLong → FaultBehind held entry l (file_fault kinds.FileTooLong name l.files) None
+  has_long : (held : Held) → next_name entry l.files ≡ Some name → is_plain name ≡ true → IsAnswered held found.TooLong → FaultBehind held entry l (file_fault kinds.FileTooLong name l.files) None (bare name (Ok got.TooLong) ∷ [])
   has_long held next plain a = record {
     reached = a.reached;
     fault = loads.too_long {name = name} {bytes = a.found.0} next plain a.found.1 a.found.2;
     source = ap (readable held entry) next ∙ ap (λ b. if b then with_bytes held entry name (held name) else []) plain ∙ ap (with_bytes held entry name) a.found.1
         ∙ ap (λ b. if b then [] else record { name = name; bytes = a.found.0 } ∷ []) a.found.2;
+    replies_are = sym (long_reply held a.found.0 next plain a.found.1 a.found.2);
   }
 
   pub for_each : {P Q : Held → Type 0} (told : Option Files) → ((held : Held) → P held → Q held) → ForHeld told P → ForHeld told Q
   for_each told f h = record { held = h.held; holds = h.holds; is = f h.held h.is }
 
-  pub no_file : (told : Option Files) (f : Fault) → next_name entry l.files ≡ Some name → Knows told → NoFile told name l.files f → ForHeld told (λ held. FaultBehind held entry l f None)
-  no_file told _ next h (not_plain p) = for_each told (λ held r. lacks_plain held next p r) h
-  no_file told _ next h (missing p is) = for_each told (λ held a. lacks_file held next p a) (answered told found.Missing next h is)
-  no_file told _ next h (too_long p is) = for_each told (λ held a. has_long held next p a) (answered told found.TooLong next h is)
+  pub no_file : (told : Option Files) (f : Fault) (replies : List Reply) → next_name entry l.files ≡ Some name → Knows told → NoFile told name l.files f replies → ForHeld told (λ held. FaultBehind held entry l f None replies)
+  no_file told _ _ next h (not_plain p) = for_each told (λ held r. lacks_plain held next p r) h
+  no_file told _ _ next h (missing p is) = for_each told (λ held a. lacks_file held next p a) (answered told found.Missing next h is)
+  no_file told _ _ next h (too_long p is) = for_each told (λ held a. has_long held next p a) (answered told found.TooLong next h is)
+
+  -- ---- there was no memory at the next name
+
+  answers_then : (held : Held) (f : Found) (replies : List Reply) → IsAnswered held f → next_replies held (next_name entry l.files) ≡ replies → HaltedBehind held entry l replies
+  answers_then held f replies a e = record { reached = a.reached; halted = subst (AreHalted held entry l) e behind_call }
+
+  pub no_room : (told : Option Files) (replies : List Reply) → next_name entry l.files ≡ Some name → Knows told → NoRoom told name replies → ForHeld told (λ held. HaltedBehind held entry l replies)
+  no_room told _ next h not_asked = for_each told (λ held r. record { reached = r; halted = before_call }) h
+  no_room told _ next h (in_the_call p) = for_each told (λ held r. record { reached = r; halted = in_call {name = name} next p }) h
+  no_room told _ next h (was_missing p is) =
+      for_each told (λ held (a : IsAnswered held found.Missing). answers_then held found.Missing (bare name (Ok got.Missing) ∷ []) a (one_reply held None next p a.found)) (answered told found.Missing next h is)
+  no_room told _ next h (was_long p is) =
+      for_each told (λ held (a : IsAnswered held found.TooLong). answers_then held found.TooLong (bare name (Ok got.TooLong) ∷ []) a (long_reply held a.found.0 next p a.found.1 a.found.2)) (answered told found.TooLong next h is)
 
   -- ---- the next name could not be read
 
-  pub asked : (told : Option Files) → next_name entry l.files ≡ Some name → is_plain name ≡ true → Knows told → ForHeld told (λ held. IsAsked held entry name)
-  asked told next plain h = for_each told (λ held r. record { loaded = l; reached = r; next = next; plain = plain }) h
+  pub unread : (told : Option Files) (replies : List Reply) → next_name entry l.files ≡ Some name → is_plain name ≡ true → Knows told → replies ≡ bare name (Err errors.Failed) ∷ [] → ForHeld told (λ held. UnreadBehind held entry l name replies)
+  unread told replies next plain h e = for_each told (λ held r. record { reached = r; next = next; plain = plain; replies_are = e }) h
 
   -- ---- the next file was read
 
@@ -125,8 +165,11 @@ module _ (entry : List ℕ) (l : Loaded) (name : List ℕ) where
       ap (readable held entry) r.next ∙ ap (λ b. if b then with_bytes held entry name (held name) else []) r.plain ∙ ap (with_bytes held entry name) r.holds
       ∙ ap (λ b. if b then [] else record { name = name; bytes = bytes } ∷ []) r.short
 
-  pub behind_read : (bytes : List ℕ) (held : Held) (f : Fault) → IsNextRead bytes held → FileFault held entry l f → FaultBehind held entry l f (Some (record { name = name; bytes = bytes }))
-  behind_read bytes held f n fault = record { reached = n.reached; fault = fault; source = read_source bytes held n.read }
+  pub behind_read : (bytes : List ℕ) (held : Held) (f : Fault) → IsNextRead bytes held → FileFault held entry l f → FaultBehind held entry l f (Some (record { name = name; bytes = bytes })) (whole name bytes ∷ [])
+  behind_read bytes held f n fault = record { reached = n.reached; fault = fault; source = read_source bytes held n.read; replies_are = sym (read_reply bytes held n.read) }
+
+  pub halted_read : (bytes : List ℕ) (held : Held) → IsNextRead bytes held → HaltedBehind held entry l (whole name bytes ∷ [])
+  halted_read bytes held n = record { reached = n.reached; halted = subst (AreHalted held entry l) (read_reply bytes held n.read) behind_call }
 
   pub inside : (bytes : List ℕ) (held : Held) (f : Fault) → IsRead held entry l name bytes → HasNoNext bytes (next_id l) l.names (known entry l.files) f → FileFault held entry l f
   inside bytes held f r (has_none (no_tokens refused)) = loads.no_tokens {name = name} {bytes = bytes} r refused

@@ -12,7 +12,7 @@ use Rattle.ato_ast.specs.declared.blocks.Head.TheVariants as head
 use Rattle.ato_ast.specs.declared.blocks.BlockKind.TheVariants.{Module}
 use Rattle.ato_files.specs.declared.program.Source.{Source}
 use Rattle.ato_files.specs.declared.program.SourceFile.{SourceFile}
-use Rattle.ato_files.specs.Written.{span, nm, quoted, heads, block, source, library}
+use Rattle.ato_files.proofs.Written.{span, nm, quoted, heads, block, source, library}
 use Rattle.ato_files.specs.Files.{known, mentions, next_name, at_entry, by_import, AreFiles}
 use Rattle.ato_files.specs.Loading.{Held, IsNextFile, too_many, Loaded, next_id, most_files, most_bytes, overflow, first_mention, FileFault, missing, too_long, readable}
 use Rattle.ato_files.specs.Programs.{Has, Loading, of_a_file, of_a_name}

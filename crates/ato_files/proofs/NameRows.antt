@@ -17,7 +17,7 @@ use Rattle.ato_ast.specs.declared.exprs.Expr.{Expr}
 use Rattle.ato_ast.specs.declared.stmts.Value.{Value}
 use Rattle.ato_base.specs.declared.tokens.TokenKind.{TokenKind}
 use Rattle.ato_files.specs.declared.program.SourceFile.{SourceFile}
-use Rattle.ato_files.specs.Written.{span, nm, quoted, path_of, heads, block, source, library}
+use Rattle.ato_files.proofs.Written.{span, nm, quoted, path_of, heads, block, source, library}
 use Rattle.ato_files.specs.Blocks.{meaning}
 use Rattle.ato_files.specs.Lineages.{lineage, descends}
 use Rattle.ato_files.specs.Members.{member, signal, instance, param}

@@ -1,5 +1,5 @@
 -- What loaded files come to by their names.
-use Rattle.std.proofs.Common.{◌≡◌, ◌≢◌, inl, inr, ℕ, Bool, true, false, List, [], ◌∷◌, ◌++◌, map, Option, Some, None, if◌then◌else◌, is_none, option_to_list, refl, sym, ap, ◌∙◌, subst, append-nil}
+use Rattle.std.proofs.Common.{◌≡◌, ◌≢◌, inl, inr, ℕ, Bool, true, false, List, [], ◌∷◌, ◌++◌, map, Option, Some, None, if◌then◌else◌, is_none, option_to_list, refl, sym, ap, ◌∙◌, subst, append-nil, drop, IfErr, IfOk, IfSome, Result, Ok, Err}
 use Rattle.std.specs.List.{flat_map}
 use Rattle.ato_base.specs.Stages.{Reaches, arrived, onward}
 use Rattle.ato_base.specs.declared.faults.Fault.{Fault}
@@ -10,21 +10,29 @@ use Rattle.ato_ast.specs.declared.names.Quoted.{Quoted}
 use Rattle.ato_ast.specs.declared.paths.Label.{Label}
 use Rattle.ato_ast.specs.declared.blocks.Block.{Block}
 use Rattle.ato_outside.specs.Files.{Files}
+use Rattle.ato_outside.specs.Replies.{Reply, Asks}
+use Rattle.ato_outside.specs.declared.shelf.Got.{Got}
+use Rattle.ato_outside.specs.declared.shelf.ShelfError.{ShelfError}
+use Rattle.ato_files.specs.declared.program.LoadFault.{LoadFault}
+use Rattle.ato_files.specs.declared.program.LoadFault.TheVariants as answers
+use Rattle.ato_files.specs.declared.program.Program.{Program}
 use Rattle.ato_files.specs.declared.program.Source.{Source}
 use Rattle.ato_files.specs.declared.program.SourceFile.{SourceFile}
 use Rattle.ato_files.specs.declared.program.BlockInfo.{BlockInfo}
 use Rattle.ato_files.specs.declared.loading.Loading.{Loading as LoadingOf}
-use Rattle.ato_files.specs.Answers.{ForHeld}
+use Rattle.ato_files.specs.Answers.{ForHeld, CountsMissing, IsFailure, IsHalted, IsRefused, IsThisProgram, IsThisFailure, before_call, held_in}
 use Rattle.ato_files.specs.Blocks.{BlockAt, blocks_of, imported, imports_of, is_known, meaning}
 use Rattle.ato_files.specs.Faults.{fault, least, sooner, is_before}
-use Rattle.ato_files.specs.Fetching.{CountsMissing}
 use Rattle.ato_files.specs.Lists.{numbered}
-use Rattle.ato_files.specs.Loading.{all_files, readable}
+use Rattle.ato_files.specs.Loading.{all_files, most_bytes, readable}
 use Rattle.ato_files.specs.LoadSteps.{IsLoading, as_source}
 use Rattle.ato_files.specs.Lineages.{parent}
 use Rattle.ato_files.specs.Members.{Decl, decls, pins, stmts_of}
 use Rattle.ato_files.specs.NameFaults.{file_faults, block_faults, parent_faults, name_faults, name_fault, repeated, item_names, unknown, type_names, new_names, clashing, inherited, is_component, is_interface, is_interface_block}
-use Rattle.ato_files.specs.Programs.{Started, Loading, Named as NamedStage, Leads, IsProgram, AreBlocks, Stands, of_a_name}
+use Rattle.ato_files.specs.Programs.{Started, Loading, Named as NamedStage, Leads, Failure, IsProgram, AreBlocks, Stands, of_a_name}
+use Rattle.ato_files.specs.Replies.{ForReplies, next_replies, replies_of}
+use Rattle.ato_files.proofs.ProgramLaws.{one_program}
+use Rattle.ato_files.proofs.StageLaws.{one_fault, none_with_program}
 
 -- ---- from loaded files to a program or a fault
 
@@ -48,22 +56,91 @@ sound_program told entry r blocks found sound are =
       };
     }
 
-pub faulty_stands : (told : Option Files) (entry : List ℕ) (r : LoadingOf) (f : Fault) (read : List Source) → ForHeld told (λ held. IsLoading held entry r) → name_fault r.files ≡ Some f → read ≡ map as_source r.files
-    → ForHeld told (λ held. Stands held entry (record { fault = f; sources = read }))
-faulty_stands told entry r f read found e same =
-    let is = found.is in
-    record {
-      held = found.held;
-      holds = found.holds;
-      is = record {
-        stage = Loading is.loaded;
-        reached = is.reached;
-        has = (
-          of_a_name is.last (ap name_fault is.files_are ∙ e),
-          same ∙ ap (map as_source) (sym is.files_are) ∙ sym (ap (λ n. map as_source (all_files is.loaded) ++ readable found.held entry n) is.last ∙ append-nil (map as_source (all_files is.loaded))),
-        );
-      };
-    }
+module _ {S : Type 0} (gets : S → List ℕ → ℕ → Result Got ShelfError → List ℕ → S → Type 0) (old new : S) where
+  pub faulty_stands : (told : Option Files) (entry : List ℕ) (r : LoadingOf) (f : Fault) (read : List Source) → ForHeld told (λ held. IsLoading held entry r) → name_fault r.files ≡ Some f → read ≡ map as_source r.files
+      → Asks gets most_bytes old (replies_of (drop 1 r.files)) new → ForReplies gets old new (λ replies. ForHeld told (λ held. IsFailure held entry (record { fault = f; sources = read }) replies))
+  faulty_stands told entry r f read found e same asks =
+      let is = found.is in
+      record {
+        replies = replies_of (drop 1 r.files);
+        asks = asks;
+        is = record {
+          held = found.held;
+          holds = found.holds;
+          is = record {
+            stands = record {
+              stage = Loading is.loaded;
+              reached = is.reached;
+              has = (
+                of_a_name is.last (ap name_fault is.files_are ∙ e),
+                same ∙ ap (map as_source) (sym is.files_are)
+                    ∙ sym (ap (λ n. map as_source (all_files is.loaded) ++ readable found.held entry n) is.last ∙ append-nil (map as_source (all_files is.loaded))),
+              );
+            };
+            replies_are = ap (λ (fs : List SourceFile). replies_of (drop 1 fs)) (sym is.files_are)
+                ∙ sym (ap (λ n. replies_of is.loaded.files ++ next_replies found.held n) is.last ∙ append-nil (replies_of is.loaded.files));
+          };
+        };
+      }
+
+  -- there was no memory behind the loaded files
+  pub loaded_halts : (told : Option Files) (entry : List ℕ) (r : LoadingOf) → ForHeld told (λ held. IsLoading held entry r) → Asks gets most_bytes old (replies_of (drop 1 r.files)) new
+      → ForReplies gets old new (λ replies. ForHeld told (λ held. IsHalted held entry replies))
+  loaded_halts told entry r found asks =
+      let is = found.is in
+      record {
+        replies = replies_of (drop 1 r.files);
+        asks = asks;
+        is = record {
+          held = found.held;
+          holds = found.holds;
+          is = record {
+            loaded = is.loaded;
+            reached = is.reached;
+            more = [];
+            halted = before_call;
+            replies_are = ap (λ (fs : List SourceFile). replies_of (drop 1 fs)) (sym is.files_are) ∙ sym (append-nil (replies_of is.loaded.files));
+          };
+        };
+      }
+
+-- ---- the other direction, where the shelf tells its files
+
+module _ {S : Type 0} (gets : S → List ℕ → ℕ → Result Got ShelfError → List ℕ → S → Type 0) (old new : S) (entry : List ℕ) where
+  -- what is answered
+  record Answers (told : Option Files) (r : Result Program LoadFault) : Type 0 where
+    program : IfOk r (λ p. ForHeld told (λ held. IsProgram held entry p))
+    refused : IfErr r (λ e. ForReplies gets old new (IsRefused told entry e))
+
+  one_given : (files : Files) (p q : Program) → IsProgram (held_in files) entry p → ForHeld (Some files) (λ held. IsProgram held entry q) → q ≡ p
+  one_given files p q is found = one_program (held_in files) entry q p (subst (λ held. IsProgram held entry q) found.holds found.is) is
+
+  not_given : (files : Files) (p : Program) (f : Failure) (replies : List Reply) → IsProgram (held_in files) entry p → ForHeld (Some files) (λ held. IsFailure held entry f replies) → ⊥
+  not_given files p f replies is found = none_with_program (held_in files) entry p f is (subst (λ held. Stands held entry f) found.holds found.is.stands)
+
+  given : (files : Files) (p : Program) (r : Result Program LoadFault) → Answers (Some files) r → IsProgram (held_in files) entry p → IsThisProgram p r
+  given files p (Ok q) a is = one_given files p q is a.program
+  given files p (Err (answers.Fault f sources)) a is = absurd (not_given files p (record { fault = f; sources = sources }) a.refused.replies is a.refused.is)
+  given files p (Err (answers.Read name)) a is = inl tt
+  given files p (Err answers.NoMemory) a is = inr tt
+
+  told_so : (files : Files) (f : Failure) (r : Result Program LoadFault) → Answers (Some files) r → Stands (held_in files) entry f → IsThisFailure f r
+  told_so files f (Ok p) a is = none_with_program (held_in files) entry p f (subst (λ held. IsProgram held entry p) a.program.holds a.program.is) is
+  told_so files f (Err (answers.Fault g sources)) a is =
+      let other : Failure = record { fault = g; sources = sources } in
+      one_fault (held_in files) entry f other is (subst (λ held. Stands held entry other) a.refused.is.holds a.refused.is.is.stands)
+  told_so files f (Err (answers.Read name)) a is = tt
+  told_so files f (Err answers.NoMemory) a is = tt
+
+  pub program_given : (told : Option Files) (r : Result Program LoadFault) → IfOk r (λ p. ForHeld told (λ held. IsProgram held entry p)) → IfErr r (λ e. ForReplies gets old new (IsRefused told entry e))
+      → IfSome told (λ files. (p : Program) → IsProgram (held_in files) entry p → IsThisProgram p r)
+  program_given None r program refused = tt
+  program_given (Some files) r program refused = λ p is. given files p r (record { program = program; refused = refused }) is
+
+  pub fault_given : (told : Option Files) (r : Result Program LoadFault) → IfOk r (λ p. ForHeld told (λ held. IsProgram held entry p)) → IfErr r (λ e. ForReplies gets old new (IsRefused told entry e))
+      → IfSome told (λ files. (f : Failure) → Stands (held_in files) entry f → IsThisFailure f r)
+  fault_given None r program refused = tt
+  fault_given (Some files) r program refused = λ f is. told_so files f r (record { program = program; refused = refused }) is
 
 -- ---- no fault of names is that a file is missing
 

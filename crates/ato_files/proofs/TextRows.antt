@@ -20,7 +20,7 @@ use Rattle.ato_files.specs.declared.program.Source.{Source}
 use Rattle.ato_files.specs.declared.program.SourceFile.{SourceFile}
 use Rattle.ato_files.specs.declared.program.Program.{Program}
 use Rattle.ato_files.specs.Library.{library_names, library_text}
-use Rattle.ato_files.specs.Written.{span}
+use Rattle.ato_files.proofs.Written.{span}
 use Rattle.ato_files.specs.Blocks.{block_of}
 use Rattle.ato_files.specs.Files.{known, mentions, name_of}
 use Rattle.ato_files.specs.Loading.{Held, Loaded, all_files, most_files, next_id, overflow, most_bytes, IsRead, AreNext, LeadsOn, missing, no_tokens, no_tree}

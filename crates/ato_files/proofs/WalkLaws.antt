@@ -5,23 +5,28 @@ use Rattle.ato_base.specs.NameTable.{with_name}
 use Rattle.ato_base.specs.declared.faults.Fault.{Fault}
 use Rattle.ato_ast.specs.declared.names.Quoted.{Quoted}
 use Rattle.ato_outside.specs.Files.{Files}
+use Rattle.ato_outside.specs.Replies.{Reply, Asks}
+use Rattle.ato_outside.specs.declared.shelf.Got.{Got}
+use Rattle.ato_outside.specs.declared.shelf.ShelfError.{ShelfError}
+use Rattle.ato_base.specs.declared.memory.NoMemory.{NoMemory}
 use Rattle.ato_files.specs.declared.program.SourceFile.{SourceFile}
 use Rattle.ato_files.specs.declared.fetching.Fetched.{Fetched}
 use Rattle.ato_files.specs.declared.fetching.Fetched.TheVariants as fetched
 use Rattle.ato_files.specs.declared.walking.Stop.{Stop}
 use Rattle.ato_files.specs.declared.walking.Stop.TheVariants as stops
 use Rattle.ato_files.specs.declared.walking.Walk.{Walk}
-use Rattle.ato_files.specs.Answers.{ForHeld}
-use Rattle.ato_files.specs.Fetching.{IsFetched, NoFile, CountsMisses, IsMissing, IsOut}
+use Rattle.ato_files.specs.Answers.{ForHeld, IsErrWith}
+use Rattle.ato_files.specs.Fetching.{IsFetched, CountsMisses, IsMissing, IsOut}
 use Rattle.ato_files.specs.Files.{known, next_name}
 use Rattle.ato_files.specs.Lists.{text_at}
-use Rattle.ato_files.specs.LoadSteps.{next_number, Adds, IsNotAdded, IsWalk, HasWalk, FaultBehind, StopsBehind, IsErrWith, IsMissingStop}
-use Rattle.ato_files.specs.Loading.{Held, Loaded, next_id, most_files, overflow, LeadsOn}
+use Rattle.ato_files.specs.LoadSteps.{next_number, Adds, IsNotAdded, IsWalk, HasWalk, FaultBehind, UnreadBehind, HaltedBehind, StopsBehind, LoadsOne, IsMissingStop}
+use Rattle.ato_files.specs.Loading.{Held, Loaded, next_id, most_bytes, most_files, overflow, LeadsOn}
+use Rattle.ato_files.specs.Replies.{whole, ForReplies}
 use Rattle.ato_files.specs.Walks.{HasNext, HasNoNext, tree_mentions, known_then}
 use Rattle.ato_files.proofs.FileLaws.{known_more}
 use Rattle.ato_files.proofs.FaultKindLaws.{inside_not}
 use Rattle.ato_files.proofs.HeldLaws.{reached_next}
-use Rattle.ato_files.proofs.LoadLaws.{IsNextRead, next_read, behind_read, inside, no_file, for_each}
+use Rattle.ato_files.proofs.LoadLaws.{IsNextRead, next_read, behind_read, halted_read, inside, no_file, no_room, unread, for_each}
 
 -- where no string is one with which too many are known, not too many are known behind them
 few_then : (most : ℕ) (bytes : List ℕ) (names : List (List ℕ)) (texts : List Quoted) → nat_lt most (length names) ≡ false → overflow most bytes names texts ≡ None
@@ -102,35 +107,60 @@ module _ (told : Option Files) (entry : List ℕ) (walk : Walk) (l : Loaded) (is
       (subst (λ names. HasNoNext bytes (next_number walk) names (known entry l.files) f) (sym is.names_are)
       (subst (λ names. HasNoNext bytes (next_number walk) walk.names names f) (sym is.known_are) none))
 
-  pub not_added : (name bytes : List ℕ) (stop : Stop) → IsNotAdded name bytes walk stop → ForHeld told (λ held. IsNextRead entry l name bytes held) → StopsBehind told entry l stop
+  pub not_added : (name bytes : List ℕ) (stop : Stop) → IsNotAdded name bytes walk stop → ForHeld told (λ held. IsNextRead entry l name bytes held) → StopsBehind told entry l stop (whole name bytes ∷ [])
   not_added name bytes (stops.Fault f None) none h = elim none [ ]
   not_added name bytes (stops.Fault f (Some source)) none h =
-      for_each entry l name told (λ held r. subst (λ s. FaultBehind held entry l f (Some s)) (sym none.0)
+      for_each entry l name told (λ held r. subst (λ s. FaultBehind held entry l f (Some s) (whole name bytes ∷ [])) (sym none.0)
       (behind_read entry l name bytes held f r (inside entry l name bytes held f r.read (no_next name bytes f none.1)))) h
   not_added name bytes (stops.Read other) none h = elim none [ ]
-  not_added name bytes stops.NoMemory none h = tt
+  not_added name bytes stops.NoMemory none h = for_each entry l name told (λ held r. halted_read entry l name bytes held r) h
 
   -- ---- what was fetched for the next name
 
-  module _ (name : List ℕ) (called : next_name entry l.files ≡ Some name) where
-    pub fault_fetched : (f : Fault) (text : List ℕ) (files : List SourceFile) → text ≡ name → files ≡ drop 1 walk.files → NoFile told text files f → ForHeld told (λ held. FaultBehind held entry l f None)
-    fault_fetched f text files t b none =
-        no_file entry l name told f called is.reached (subst (λ fs. NoFile told name fs f) (b ∙ same_files) (subst (λ n. NoFile told n files f) t none))
+  module _ (name : List ℕ) (called : next_name entry l.files ≡ Some name) (text : List ℕ) (is_name : text ≡ name) (files : List SourceFile) (are_files : files ≡ drop 1 walk.files) where
+    -- it was fetched at the next name, behind the loaded files
+    at_next : (r : Result Fetched NoMemory) (replies : List Reply) → IsFetched told text files r replies → IsFetched told name l.files r replies
+    at_next r replies f = subst (λ fs. IsFetched told name fs r replies) (are_files ∙ same_files) (subst (λ n. IsFetched told n files r replies) is_name f)
 
-    read_fetched : (bytes text : List ℕ) → text ≡ name → IsFetched told text (drop 1 walk.files) (fetched.Whole bytes) → ForHeld told (λ held. IsNextRead entry l name bytes held)
-    read_fetched bytes text t whole =
-        let at : IsFetched told name (drop 1 walk.files) (fetched.Whole bytes) = subst (λ n. IsFetched told n (drop 1 walk.files) (fetched.Whole bytes)) t whole in
-        next_read entry l name told bytes called at.0 is.reached at.1
+    pub fault_fetched : (f : Fault) (replies : List Reply) → IsFetched told text files (Ok (fetched.Fault f)) replies → ForHeld told (λ held. FaultBehind held entry l f None replies)
+    fault_fetched f replies none = no_file entry l name told f replies called is.reached (at_next (Ok (fetched.Fault f)) replies none)
 
-    pub grown_fetched : {A : Type 0} (bytes text : List ℕ) (new : Walk) (r : Result A Stop) → text ≡ name → IsFetched told text (drop 1 walk.files) (fetched.Whole bytes) → OnOk r (Adds name bytes walk new)
+    pub failed_fetched : (replies : List Reply) → IsFetched told text files (Ok fetched.Failed) replies → ForHeld told (λ held. UnreadBehind held entry l name replies)
+    failed_fetched replies failed = let at = at_next (Ok fetched.Failed) replies failed in unread entry l name told replies called at.0 is.reached at.1
+
+    pub halted_fetched : (e : NoMemory) (replies : List Reply) → IsFetched told text files (Err e) replies → ForHeld told (λ held. HaltedBehind held entry l replies)
+    halted_fetched e replies out = no_room entry l name told replies called is.reached (at_next (Err e) replies out)
+
+    read_fetched : (bytes : List ℕ) (replies : List Reply) → IsFetched told text files (Ok (fetched.Whole bytes)) replies → ForHeld told (λ held. IsNextRead entry l name bytes held)
+    read_fetched bytes replies given = let at = at_next (Ok (fetched.Whole bytes)) replies given in next_read entry l name told bytes called at.0 is.reached at.1
+
+    pub grown_fetched : {A : Type 0} (bytes : List ℕ) (replies : List Reply) (new : Walk) (r : Result A Stop) → IsFetched told text files (Ok (fetched.Whole bytes)) replies → OnOk r (Adds name bytes walk new)
         → OnOk r (HasWalk told entry new)
-    grown_fetched bytes text new (Ok a) t whole adds = grown name bytes new adds (read_fetched bytes text t whole)
-    grown_fetched bytes text new (Err stop) t whole adds = tt
+    grown_fetched bytes replies new (Ok a) given adds = grown name bytes new adds (read_fetched bytes replies given)
+    grown_fetched bytes replies new (Err stop) given adds = tt
 
-    pub stopped_fetched : {A : Type 0} (bytes text : List ℕ) (r : Result A Stop) → text ≡ name → IsFetched told text (drop 1 walk.files) (fetched.Whole bytes) → IfErr r (IsNotAdded name bytes walk)
-        → IfErr r (StopsBehind told entry l)
-    stopped_fetched bytes text (Ok a) t whole none = tt
-    stopped_fetched bytes text (Err stop) t whole none = not_added name bytes stop none (read_fetched bytes text t whole)
+    pub stopped_fetched : {A : Type 0} (bytes : List ℕ) (replies : List Reply) (r : Result A Stop) → IsFetched told text files (Ok (fetched.Whole bytes)) replies → IfErr r (IsNotAdded name bytes walk)
+        → IfErr r (λ stop. StopsBehind told entry l stop replies)
+    stopped_fetched bytes replies (Ok a) given none = tt
+    stopped_fetched bytes replies (Err stop) given none =
+        let at = at_next (Ok (fetched.Whole bytes)) replies given in
+        subst (StopsBehind told entry l stop) (sym at.2) (not_added name bytes stop none (read_fetched bytes replies given))
+
+-- the replies of the calls for a file that is added, or not
+module _ {S : Type 0} (gets : S → List ℕ → ℕ → Result Got ShelfError → List ℕ → S → Type 0) (old new : S) where
+  pub loads_one : {A : Type 0} (told : Option Files) (text name bytes : List ℕ) (files : List SourceFile) (walk grown : Walk) (r : Result A Stop) → text ≡ name
+      → ForReplies gets old new (IsFetched told text files (Ok (fetched.Whole bytes))) → OnOk r (Adds name bytes walk grown) → OnOk r (LoadsOne gets old new walk.files grown.files)
+  loads_one told text name bytes files walk grown (Ok a) t f adds = record {
+    file = record { name = name; bytes = bytes; tree = adds.tree };
+    files_are = adds.files;
+    asks = subst (λ replies. Asks gets most_bytes old replies new) (f.is.2 ∙ ap (λ n. whole n bytes ∷ []) t) f.asks;
+  }
+  loads_one told text name bytes files walk grown (Err stop) t f adds = tt
+
+  pub stops_with : {A : Type 0} (told : Option Files) (entry : List ℕ) (l : Loaded) (r : Result A Stop) (Is : List Reply → Type 0) → ForReplies gets old new Is
+      → ((replies : List Reply) → Is replies → IfErr r (λ stop. StopsBehind told entry l stop replies)) → IfErr r (λ stop. ForReplies gets old new (StopsBehind told entry l stop))
+  stops_with told entry l (Ok a) Is f each = tt
+  stops_with told entry l (Err stop) Is f each = record { replies = f.replies; asks = f.asks; is = each f.replies f.is }
 
 -- ---- no fault of a file that was read is that it is missing
 

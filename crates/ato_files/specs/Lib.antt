@@ -27,6 +27,6 @@ pub mod Noted
 pub mod NumberSet
 pub mod ParentLists
 pub mod Programs
+pub mod Replies
 pub mod Tables
 pub mod Walks
-pub mod Written

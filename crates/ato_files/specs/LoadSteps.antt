@@ -1,23 +1,26 @@
 -- Loading files one by one, in code. Only private functions have clauses in these words.
-use Rattle.std.specs.Prelude.{◌≡◌, ℕ, false, List, [], ◌∷◌, ◌++◌, length, nat_lt, Option, Some, None, Result, Ok, Err}
+use Rattle.std.specs.Prelude.{◌≡◌, ℕ, true, false, List, [], ◌∷◌, ◌++◌, length, nat_lt, Option, Some, None, Result, Err}
 use Rattle.ato_base.specs.declared.faults.Fault.{Fault}
 use Rattle.ato_base.specs.declared.faults.FaultKind.TheVariants as kinds
 use Rattle.ato_base.specs.declared.places.FileId.{FileId}
 use Rattle.ato_ast.specs.declared.blocks.File.{File}
 use Rattle.ato_outside.specs.Files.{Files}
+use Rattle.ato_outside.specs.Replies.{Reply, Asks}
+use Rattle.ato_outside.specs.declared.shelf.Got.{Got}
+use Rattle.ato_outside.specs.declared.shelf.ShelfError.{ShelfError}
+use Rattle.ato_outside.specs.declared.shelf.ShelfError.TheVariants as errors
 use Rattle.ato_words.specs.PlainNames.{is_plain}
-use Rattle.ato_files.specs.declared.program.LoadFault.{LoadFault}
-use Rattle.ato_files.specs.declared.program.LoadFault.TheVariants as answers
 use Rattle.ato_files.specs.declared.program.Source.{Source}
 use Rattle.ato_files.specs.declared.program.SourceFile.{SourceFile}
 use Rattle.ato_files.specs.declared.walking.Stop.{Stop}
 use Rattle.ato_files.specs.declared.walking.Stop.TheVariants as stops
 use Rattle.ato_files.specs.declared.walking.Walk.{Walk}
 use Rattle.ato_files.specs.declared.loading.Loading as code
-use Rattle.ato_files.specs.Answers.{ForHeld, IsAsked}
+use Rattle.ato_files.specs.Answers.{ForHeld, AreHalted}
 use Rattle.ato_files.specs.Files.{known, next_name}
-use Rattle.ato_files.specs.Loading.{Held, Loaded, all_files, most_files, IsStart, FileFault, readable}
+use Rattle.ato_files.specs.Loading.{Held, Loaded, all_files, most_bytes, most_files, IsStart, FileFault, readable}
 use Rattle.ato_files.specs.Programs.{Loading, IsReached}
+use Rattle.ato_files.specs.Replies.{bare, reply_of, replies_of, next_replies}
 use Rattle.ato_files.specs.Walks.{started, HasNext, HasNoNext}
 
 -- ---- adding a file
@@ -38,6 +41,12 @@ IsNotAdded name bytes walk (stops.Fault f None) = ⊥
 IsNotAdded name bytes walk (stops.Fault f (Some source)) = (source ≡ record { name = name; bytes = bytes }) × HasNoNext bytes (next_number walk) walk.names walk.known f
 IsNotAdded name bytes walk (stops.Read other) = ⊥
 IsNotAdded name bytes walk stops.NoMemory = Unit {0}
+
+-- One more file is loaded, which the shelf gave in one call.
+pub record LoadsOne {S : Type 0} (gets : S → List ℕ → ℕ → Result Got ShelfError → List ℕ → S → Type 0) (old new : S) (before after : List SourceFile) : Type 0 where
+  pub file : SourceFile
+  pub files_are : after ≡ before ++ file ∷ []
+  pub asks : Asks gets most_bytes old (reply_of file ∷ []) new
 
 -- ---- how far loading has come
 
@@ -74,21 +83,38 @@ abbrev pub read_too : Option Source → List Source
 read_too None = []
 read_too (Some source) = source ∷ []
 
--- The next file has the fault, and this is what was read of it.
-pub record FaultBehind (held : Held) (entry : List ℕ) (l : Loaded) (f : Fault) (read : Option Source) : Type 0 where
+-- The next file has the fault, and this is what was read of it, with these replies.
+pub record FaultBehind (held : Held) (entry : List ℕ) (l : Loaded) (f : Fault) (read : Option Source) (replies : List Reply) : Type 0 where
   pub reached : IsReached held entry (Loading l)
   pub fault : FileFault held entry l f
   pub source : readable held entry (next_name entry l.files) ≡ read_too read
+  pub replies_are : replies ≡ next_replies held (next_name entry l.files)
 
--- Why loading stops behind some files.
-abbrev pub StopsBehind : Option Files → List ℕ → Loaded → Stop → Type 0
-StopsBehind told entry l (stops.Fault f read) = ForHeld told (λ held. FaultBehind held entry l f read)
-StopsBehind told entry l (stops.Read name) = ForHeld told (λ held. IsAsked held entry name)
-StopsBehind told entry l stops.NoMemory = Unit {0}
+-- The call for the next file failed.
+pub record UnreadBehind (held : Held) (entry : List ℕ) (l : Loaded) (name : List ℕ) (replies : List Reply) : Type 0 where
+  pub reached : IsReached held entry (Loading l)
+  pub next : next_name entry l.files ≡ Some name
+  pub plain : is_plain name ≡ true
+  pub replies_are : replies ≡ bare name (Err errors.Failed) ∷ []
 
--- Loading stops, and these are the files that are loaded then.
-abbrev pub StopsWith : Option Files → List ℕ → List SourceFile → Stop → Type 0
-StopsWith told entry files stop = (l : Loaded) × (all_files l ≡ files) × StopsBehind told entry l stop
+-- Memory ran out.
+pub record HaltedBehind (held : Held) (entry : List ℕ) (l : Loaded) (replies : List Reply) : Type 0 where
+  pub reached : IsReached held entry (Loading l)
+  pub halted : AreHalted held entry l replies
+
+-- Why loading stops behind some files, after these replies for the next one.
+abbrev pub StopsBehind : Option Files → List ℕ → Loaded → Stop → List Reply → Type 0
+StopsBehind told entry l (stops.Fault f read) replies = ForHeld told (λ held. FaultBehind held entry l f read replies)
+StopsBehind told entry l (stops.Read name) replies = ForHeld told (λ held. UnreadBehind held entry l name replies)
+StopsBehind told entry l stops.NoMemory replies = ForHeld told (λ held. HaltedBehind held entry l replies)
+
+-- Loading stops, and these are the files that are loaded then and the replies.
+pub record StopsWith (told : Option Files) (entry : List ℕ) (files : List SourceFile) (stop : Stop) (replies : List Reply) : Type 0 where
+  pub loaded : Loaded
+  pub files_are : all_files loaded ≡ files
+  pub more : List Reply
+  pub why : StopsBehind told entry loaded stop more
+  pub replies_are : replies ≡ replies_of loaded.files ++ more
 
 -- ---- what is loaded
 
@@ -100,12 +126,7 @@ pub record IsLoading (held : Held) (entry : List ℕ) (r : code.Loading) : Type 
   pub names_are : loaded.names ≡ r.names
   pub files_are : all_files loaded ≡ r.files
 
--- ---- answers
-
--- it is an error, and of this kind
-abbrev pub IsErrWith : {A E : Type 0} → (E → Type 0) → Result A E → Type 0
-IsErrWith Is (Ok a) = ⊥
-IsErrWith Is (Err e) = Is e
+-- ---- kinds of stops
 
 -- a file could not be read
 abbrev pub IsReadStop : Stop → Type 0
@@ -121,29 +142,3 @@ IsMissingStop _ = ⊥
 abbrev pub IsOutStop : Stop → Type 0
 IsOutStop stops.NoMemory = Unit {0}
 IsOutStop _ = ⊥
-
--- the same of the answers of loading
-
-abbrev pub IsReadFault : LoadFault → Type 0
-IsReadFault (answers.Read name) = Unit {0}
-IsReadFault _ = ⊥
-
-abbrev pub IsMissingFault : LoadFault → Type 0
-IsMissingFault (answers.Fault f sources) = f.kind ≡ kinds.FileMissing
-IsMissingFault _ = ⊥
-
-abbrev pub IsOutFault : LoadFault → Type 0
-IsOutFault answers.NoMemory = Unit {0}
-IsOutFault _ = ⊥
-
--- The next name is not plain.
-pub record IsUnplain (held : Held) (entry : List ℕ) : Type 0 where
-  pub loaded : Loaded
-  pub reached : IsReached held entry (Loading loaded)
-  pub name : List ℕ
-  pub next : next_name entry loaded.files ≡ Some name
-  pub unplain : is_plain name ≡ false
-
--- It is so for what the shelf holds.
-abbrev pub IsUnplainFor : Option Files → List ℕ → Type 0
-IsUnplainFor told entry = ForHeld told (λ held. IsUnplain held entry)

@@ -1,15 +1,17 @@
 //! Fetching the file of a name.
-ghost use Rattle.std.specs.Prelude.{◌≡◌, Ok, IfOk, true};
+ghost use Rattle.std.specs.Prelude.{◌≡◌, [], ◌∷◌, Ok, IfOk, true};
 ghost use Rattle.ato_outside.specs.Causes.{Counts};
+ghost use Rattle.ato_outside.specs.Replies.{Asks};
 ghost use Rattle.ato_words.specs.PlainNames.{is_plain};
-ghost use Rattle.ato_files.specs.Fetching.{CountsMisses, IsFetched, IsFoundBy, IsMissing, IsOut};
-ghost use Rattle.ato_files.specs.Loading.{file_fault};
+ghost use Rattle.ato_files.specs.Fetching.{CountsMisses, IsFetched, IsFoundBy, IsMissing, IsOut, found_reply};
+ghost use Rattle.ato_files.specs.Loading.{file_fault, most_bytes};
+ghost use Rattle.ato_files.specs.Replies.{ForReplies};
 
 use crate::SourceFile;
 use crate::places::first_mention;
-use crate::plain_names::is_plain;
 use ato_base::{Fault, FaultKind, List, NoMemory};
 use ato_outside::{Got, Shelf, ShelfError};
+use ato_words::is_plain;
 use std::alloc::Global;
 
 /// What was found at a name.
@@ -39,6 +41,7 @@ pub(crate) enum Fetched {
 /// Asks the shelf for the file of a name.
 fn ask<S: Shelf>(alloc: Global, shelf: &mut S, name: &str) -> Result<Found, NoMemory>
     ensures same { S.files shelf.new ≡ S.files shelf.old }
+    ensures asked { Asks S.gets most_bytes shelf.old (found_reply name.now result ∷ []) shelf.new }
     ensures found { IfOk result (IsFoundBy (S.files shelf.old) name.now) }
     ensures faults { Counts (S.faults shelf.old) (S.faults shelf.new) (result ≡ Ok Found.Failed) }
     ensures misses { Counts (S.misses shelf.old) (S.misses shelf.new) (result ≡ Ok Found.Missing) }
@@ -83,7 +86,7 @@ fn fetch_plain<S: Shelf>(
 ) -> Result<Fetched, NoMemory>
     requires { is_plain name.now ≡ true }
     ensures same { S.files shelf.new ≡ S.files shelf.old }
-    ensures fetched { IfOk result (IsFetched (S.files shelf.old) name.now files.now) }
+    ensures fetched { ForReplies S.gets shelf.old shelf.new (IsFetched (S.files shelf.old) name.now files.now result) }
     ensures faults { Counts (S.faults shelf.old) (S.faults shelf.new) (result ≡ Ok Fetched.Failed) }
     ensures misses { CountsMisses (S.misses shelf.old) (S.misses shelf.new) (is_plain name.now ≡ true) (IsMissing result) (IsOut result) }
 {
@@ -113,7 +116,7 @@ pub(crate) fn fetch<S: Shelf>(
     name: &str,
 ) -> Result<Fetched, NoMemory>
     ensures same { S.files shelf.new ≡ S.files shelf.old }
-    ensures fetched { IfOk result (IsFetched (S.files shelf.old) name.now files.now) }
+    ensures fetched { ForReplies S.gets shelf.old shelf.new (IsFetched (S.files shelf.old) name.now files.now result) }
     ensures faults { Counts (S.faults shelf.old) (S.faults shelf.new) (result ≡ Ok Fetched.Failed) }
     ensures misses { CountsMisses (S.misses shelf.old) (S.misses shelf.new) (is_plain name.now ≡ true) (IsMissing result) (IsOut result) }
 {

@@ -1,10 +1,12 @@
 //! Loading the files of a project.
-ghost use Rattle.std.specs.Prelude.{◌≡◌, ◌⊎◌, ◌↔◌, ◌++◌, ℕ, IfErr, IfOk, Option, map};
+ghost use Rattle.std.specs.Prelude.{◌≡◌, ◌⊎◌, ◌↔◌, ◌++◌, ℕ, IfErr, IfOk, List, Option, drop, map};
 ghost use Rattle.ato_outside.specs.Causes.{Counts};
 ghost use Rattle.ato_outside.specs.Files.{Files};
-ghost use Rattle.ato_files.specs.Answers.{ForHeld, IsRefused};
-ghost use Rattle.ato_files.specs.Fetching.{CountsMissing};
-ghost use Rattle.ato_files.specs.LoadSteps.{IsErrWith, IsLoading, IsMissingFault, IsMissingStop, IsOutFault, IsOutStop, IsReadFault, IsReadStop, IsUnplainFor, StopsWith, as_source, read_too};
+ghost use Rattle.ato_outside.specs.Replies.{Asks, Reply};
+ghost use Rattle.ato_files.specs.Answers.{CountsMissing, ForHeld, IsErrWith, IsMissingFault, IsOutFault, IsReadFault, IsRefused, IsUnplainFor};
+ghost use Rattle.ato_files.specs.LoadSteps.{IsLoading, IsMissingStop, IsOutStop, IsReadStop, StopsWith, as_source, read_too};
+ghost use Rattle.ato_files.specs.Loading.{most_bytes};
+ghost use Rattle.ato_files.specs.Replies.{ForReplies, replies_of};
 
 use crate::walking::{Stop, load_all, start};
 use crate::{LoadFault, Source, SourceFile};
@@ -55,7 +57,7 @@ fn sources(
 
 /// The answer where loading stops behind these files.
 fn refuse(alloc: Global, files: List<SourceFile>, stop: Stop) -> LoadFault
-    ensures fault { (told : Option Files) (entry : List ℕ) → StopsWith told entry files stop → IsRefused told entry result }
+    ensures fault { (told : Option Files) (entry : List ℕ) (replies : List Reply) → StopsWith told entry files stop replies → IsRefused told entry result replies }
     ensures read { IsReadFault result ↔ IsReadStop stop }
     ensures missing { IsMissingFault result → IsMissingStop stop }
     ensures missed { IsMissingStop stop → IsMissingFault result ⊎ IsOutFault result }
@@ -83,9 +85,10 @@ pub(crate) fn load_files<S: Shelf>(
 ) -> Result<Loading, LoadFault>
     ensures same { S.files shelf.new ≡ S.files shelf.old }
     ensures loaded { IfOk result (λ loading. ForHeld (S.files shelf.old) (λ held. IsLoading held entry.now loading)) }
-    ensures refused { IfErr result (IsRefused (S.files shelf.old) entry.now) }
+    ensures asked { IfOk result (λ loading. Asks S.gets most_bytes shelf.old (replies_of (drop 1 loading.files)) shelf.new) }
+    ensures refused { IfErr result (λ e. ForReplies S.gets shelf.old shelf.new (IsRefused (S.files shelf.old) entry.now e)) }
     ensures faults { Counts (S.faults shelf.old) (S.faults shelf.new) (IsErrWith IsReadFault result) }
-    ensures misses { CountsMissing (S.misses shelf.old) (S.misses shelf.new) (IsUnplainFor (S.files shelf.old) entry.now) (IsErrWith IsMissingFault result) (IsErrWith IsOutFault result) }
+    ensures misses { CountsMissing (S.misses shelf.old) (S.misses shelf.new) (IsUnplainFor S.gets (S.files shelf.old) shelf.old shelf.new entry.now) (IsErrWith IsMissingFault result) (IsErrWith IsOutFault result) }
 {
     let mut walk = start(alloc, entry)?;
     match load_all(alloc, shelf, &mut walk) {

@@ -8,6 +8,7 @@ ghost use Rattle.ato_files.specs.Loading.{most_files};
 ghost use Rattle.ato_files.specs.Walks.{HasText, Notes, tree_mentions};
 
 use crate::known::FileNames;
+use crate::pieces::text_at;
 use ato_ast::{File, Head, Item, Quoted};
 use ato_base::{List, NoMemory, Span};
 use std::alloc::Global;
@@ -65,22 +66,12 @@ pub(crate) fn mentions(alloc: Global, tree: &File) -> Result<List<Quoted>, NoMem
     Ok(found)
 }
 
-/// The bytes of a place.
-pub(crate) fn bytes_at(bytes: &[u8], at: Span) -> &[u8]
-    ensures { result.now ≡ text_at bytes.now at }
-{
-    let size = bytes.len();
-    let start = size.min(at.start as usize);
-    let end = size.min(at.end as usize).max(start);
-    &bytes[start..end]
-}
-
 /// The text of a place that has one.
 fn text_of(bytes: &[u8], at: Span) -> &str
     requires { IsUtf8 (text_at bytes.now at) }
     ensures { result.now ≡ text_at bytes.now at }
 {
-    match str::from_utf8(bytes_at(bytes, at)) {
+    match str::from_utf8(text_at(bytes, at)) {
         Ok(text) => text,
         Err(_) => unreachable!(),
     }

@@ -4,7 +4,8 @@ ghost use Rattle.ato_files.specs.Files.{mentions};
 ghost use Rattle.ato_files.specs.Loading.{first_mention, mention_in};
 
 use crate::SourceFile;
-use crate::mentions::{bytes_at, mentions};
+use crate::mentions::mentions;
+use crate::pieces::text_at;
 use ato_ast::Quoted;
 use ato_base::{NoMemory, Place};
 use std::alloc::Global;
@@ -14,7 +15,7 @@ fn mention_in(name: &str, bytes: &[u8], texts: &[Quoted]) -> Option<Place>
     ensures { result ≡ mention_in name.now bytes.now texts.now }
 {
     for text in texts {
-        if bytes_at(bytes, text.contents) == name.as_bytes() {
+        if text_at(bytes, text.contents) == name.as_bytes() {
             return Some(Place::Source(text.at));
         }
     }

@@ -2,10 +2,13 @@
 ghost use Rattle.std.specs.Prelude.{◌≡◌, ◌+◌, ◌-◌, ◌<◌, ◌≤◌, ◌^◌, ℕ, List, IfErr, IfOk, OnErr, OnOk, Some, drop, length, slice_get, true};
 ghost use Rattle.ato_outside.specs.Causes.{Counts};
 ghost use Rattle.ato_words.specs.PlainNames.{is_plain};
-ghost use Rattle.ato_files.specs.Fetching.{CountsMisses, CountsMissing};
+ghost use Rattle.ato_outside.specs.Replies.{Asks};
+ghost use Rattle.ato_files.specs.Answers.{CountsMissing, IsErrWith, IsUnplainFor};
+ghost use Rattle.ato_files.specs.Fetching.{CountsMisses};
 ghost use Rattle.ato_files.specs.Files.{next_name};
-ghost use Rattle.ato_files.specs.LoadSteps.{Adds, HasWalk, IsBegun, IsErrWith, IsMissingStop, IsNotAdded, IsOutStop, IsDone, IsReadStop, IsUnplainFor, IsWalk, StopsBehind, StopsWith};
-ghost use Rattle.ato_files.specs.Loading.{Loaded};
+ghost use Rattle.ato_files.specs.LoadSteps.{Adds, HasWalk, IsBegun, IsMissingStop, IsNotAdded, IsOutStop, IsDone, IsReadStop, IsWalk, LoadsOne, StopsBehind, StopsWith};
+ghost use Rattle.ato_files.specs.Loading.{Loaded, most_bytes};
+ghost use Rattle.ato_files.specs.Replies.{ForReplies, replies_of};
 
 use crate::fetching::{Fetched, fetch};
 use crate::known::FileNames;
@@ -109,8 +112,9 @@ fn load_next<S: Shelf>(
     requires few { length walk.old.files < 2 ^ 32 }
     ensures same { S.files shelf.new ≡ S.files shelf.old }
     ensures loaded { (entry : List ℕ) (l : Loaded) → IsWalk (S.files shelf.old) entry walk.old l → next_name entry l.files ≡ Some name → OnOk result (HasWalk (S.files shelf.old) entry walk.new) }
+    ensures asked { OnOk result (LoadsOne S.gets shelf.old shelf.new walk.old.files walk.new.files) }
     ensures longer { OnOk result (length walk.new.files ≡ length walk.old.files + 1) }
-    ensures stopped { (entry : List ℕ) (l : Loaded) → IsWalk (S.files shelf.old) entry walk.old l → next_name entry l.files ≡ Some name → IfErr result (StopsBehind (S.files shelf.old) entry l) }
+    ensures stopped { (entry : List ℕ) (l : Loaded) → IsWalk (S.files shelf.old) entry walk.old l → next_name entry l.files ≡ Some name → IfErr result (λ stop. ForReplies S.gets shelf.old shelf.new (StopsBehind (S.files shelf.old) entry l stop)) }
     ensures kept { OnErr result (walk.new.files ≡ walk.old.files) }
     ensures faults { Counts (S.faults shelf.old) (S.faults shelf.new) (IsErrWith IsReadStop result) }
     ensures misses { CountsMisses (S.misses shelf.old) (S.misses shelf.new) (is_plain name ≡ true) (IsErrWith IsMissingStop result) (IsErrWith IsOutStop result) }
@@ -135,12 +139,13 @@ fn next(alloc: Global, walk: &Walk) -> Result<Option<Text>, NoMemory>
 
 /// Loads all files behind the library.
 pub(crate) fn load_all<S: Shelf>(alloc: Global, shelf: &mut S, walk: &mut Walk) -> Result<(), Stop>
-    requires { (entry : List ℕ) × HasWalk (S.files shelf.old) entry walk.old }
+    requires { (entry : List ℕ) × IsBegun entry walk.old }
     ensures same { S.files shelf.new ≡ S.files shelf.old }
-    ensures loaded { (entry : List ℕ) → HasWalk (S.files shelf.old) entry walk.old → OnOk result (IsDone (S.files shelf.old) entry walk.new) }
-    ensures stopped { (entry : List ℕ) → HasWalk (S.files shelf.old) entry walk.old → IfErr result (StopsWith (S.files shelf.old) entry walk.new.files) }
+    ensures loaded { (entry : List ℕ) → IsBegun entry walk.old → OnOk result (IsDone (S.files shelf.old) entry walk.new) }
+    ensures asked { OnOk result (Asks S.gets most_bytes shelf.old (replies_of (drop 1 walk.new.files)) shelf.new) }
+    ensures stopped { (entry : List ℕ) → IsBegun entry walk.old → IfErr result (λ stop. ForReplies S.gets shelf.old shelf.new (StopsWith (S.files shelf.old) entry walk.new.files stop)) }
     ensures faults { Counts (S.faults shelf.old) (S.faults shelf.new) (IsErrWith IsReadStop result) }
-    ensures missed { (entry : List ℕ) → HasWalk (S.files shelf.old) entry walk.old → CountsMissing (S.misses shelf.old) (S.misses shelf.new) (IsUnplainFor (S.files shelf.old) entry) (IsErrWith IsMissingStop result) (IsErrWith IsOutStop result) }
+    ensures missed { (entry : List ℕ) → IsBegun entry walk.old → CountsMissing (S.misses shelf.old) (S.misses shelf.new) (IsUnplainFor S.gets (S.files shelf.old) shelf.old shelf.new entry) (IsErrWith IsMissingStop result) (IsErrWith IsOutStop result) }
 {
     while let Some(name) = next(alloc, walk)? {
         match load_next(alloc, shelf, walk, name) {

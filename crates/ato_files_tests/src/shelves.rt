@@ -1,5 +1,7 @@
 //! Files in memory, on a shelf that keeps what it is asked for.
+ghost use Rattle.std.specs.FinMap as map;
 ghost use Rattle.std.specs.Prelude.{Some};
+ghost use Rattle.ato_outside.specs.Shelf.{IsAnswer};
 
 use ato_base::{List, NoMemory, Text};
 use ato_outside::{Got, Shelf, ShelfError, SureShelf};
@@ -50,6 +52,8 @@ pub(crate) struct Asked {
 }
 
 impl Shelf for Asked {
+    ghost gets = { λ old name limit answer bytes _. IsAnswer (map.get old.held.files name) limit answer bytes };
+
     ghost files = { λ s. Some s.held.files };
 
     ghost faults = { λ s. s.faults };

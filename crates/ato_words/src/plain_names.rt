@@ -24,7 +24,7 @@ fn has_segments(name: &[u8]) -> bool
 
 /// Whether a name is plain: it has no backslash and no NUL, and each part between slashes is neither
 /// empty nor `.` nor `..`.
-pub(crate) fn is_plain(name: &str) -> bool
+pub fn is_plain(name: &str) -> bool
     ensures { result ≡ is_plain name.now }
 {
     let bytes = name.as_bytes();

@@ -1,13 +1,10 @@
-use Rattle.std.proofs.Common.{rules}
-use Rattle.ato_files.proofs.ProjectLaws.{sound_program, faulty_stands, never_missing, no_more_missing}
+use Rattle.ato_files.proofs.ProjectLaws as laws
 use Rattle.ato_files.proofs.projects.load.Goals as goal
 
-pub returns-in-Sound-clause-program : goal.returns-in-Sound-clause-program
-returns-in-Sound-clause-program g c = sound_program _ c.args.entry.now _ _ c.in_ok-names.ensures.loaded (search rules) (search rules)
+pub returns-clause-program_given : goal.returns-clause-program_given
+returns-clause-program_given g c =
+    laws.program_given g.S.Shelf.gets c.args.shelf.now c.load_program.new.shelf c.args.entry.now (g.S.Shelf.files c.args.shelf.now) c.load_program.result c.load_program.ensures.program c.load_program.ensures.refused
 
-pub returns-in_ok-read_files-in-Faulty-clause-refused : goal.returns-in_ok-read_files-in-Faulty-clause-refused
-returns-in_ok-read_files-in-Faulty-clause-refused g c =
-    faulty_stands _ c.args.entry.now _ c.in-Faulty.fault c.in_ok-read_files-in-Faulty.field-0 c.in_ok-names.ensures.loaded (search rules) (search rules)
-
-pub returns-in_ok-read_files-in-Faulty-clause-misses : goal.returns-in_ok-read_files-in-Faulty-clause-misses
-returns-in_ok-read_files-in-Faulty-clause-misses g c = no_more_missing _ _ _ _ (never_missing c.in_ok-names.files c.in-Faulty.fault (search rules)) c.in_ok-names.ensures.misses
+pub returns-clause-fault_given : goal.returns-clause-fault_given
+returns-clause-fault_given g c =
+    laws.fault_given g.S.Shelf.gets c.args.shelf.now c.load_program.new.shelf c.args.entry.now (g.S.Shelf.files c.args.shelf.now) c.load_program.result c.load_program.ensures.program c.load_program.ensures.refused
