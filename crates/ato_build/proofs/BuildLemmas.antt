@@ -6,9 +6,9 @@ use Rattle.ato_outside.specs.Causes.{Counts}
 use Rattle.ato_outside.specs.Files.{Files}
 use Rattle.ato_outside.specs.declared.tray.TrayError.{TrayError}
 use Rattle.ato_outside.specs.declared.tray.TrayError.TheVariants as tray_errors
-use Rattle.ato_catalog.specs.Catalogue.{ShowsContents}
-use Rattle.ato_catalog.specs.Contents.{Contents}
-use Rattle.ato_catalog.proofs.CatalogueLaws.{contents_read}
+use Rattle.ato_first_catalog.specs.Catalogue.{ShowsContents}
+use Rattle.ato_first_catalog.specs.Contents.{Contents}
+use Rattle.ato_first_catalog.proofs.CatalogueLaws.{contents_read}
 use Rattle.ato_words.specs.Words.{IsBuild}
 use Rattle.ato_words.specs.declared.words.Build.{Build}
 use Rattle.ato_build.specs.Answers.{IsStopped}

@@ -7,10 +7,10 @@ use Rattle.std.specs.List.{Contains}
 use Rattle.std.proofs.lemmas.Bool.{le-leb}
 use Rattle.std.proofs.lemmas.List.{length-map}
 use Rattle.ato_base.specs.declared.faults.Fault.{Fault}
-use Rattle.ato_catalog.specs.Contents.{Contents, contents_in, first_fault, no_header, unless_fault}
-use Rattle.ato_catalog.specs.Header.{is_header, layout_of}
-use Rattle.ato_catalog.specs.Rows.{row_of}
-use Rattle.ato_catalog.proofs.NoFaultLaws.{few-rows}
+use Rattle.ato_first_catalog.specs.Contents.{Contents, contents_in, first_fault, no_header, unless_fault}
+use Rattle.ato_first_catalog.specs.Header.{is_header, layout_of}
+use Rattle.ato_first_catalog.specs.Rows.{row_of}
+use Rattle.ato_first_catalog.proofs.NoFaultLaws.{few-rows}
 use Rattle.ato_cert.specs.Texts.{cert_text}
 use Rattle.ato_cert.specs.declared.cert.Cert.{Cert}
 use Rattle.ato_cert.proofs.WritableLaws.{valid_writable}

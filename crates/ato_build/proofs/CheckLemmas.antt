@@ -3,13 +3,13 @@ use Rattle.std.proofs.Common.{◌≡◌, ℕ, ◌^◌, ◌≤◌, List, [], ◌�
 use Rattle.std.specs.Prelude.{Option, Some, None, Result, Ok, Err, IfOk}
 use Rattle.ato_base.specs.declared.faults.Fault.{Fault}
 use Rattle.ato_base.specs.declared.memory.NoMemory.{NoMemory}
-use Rattle.ato_catalog.specs.Catalogue.{ShowsContents, ShowsRows}
-use Rattle.ato_catalog.specs.Contents.{Contents}
-use Rattle.ato_catalog.specs.Rows.{PlainRow}
-use Rattle.ato_catalog.specs.WellMade as catalogues
-use Rattle.ato_catalog.specs.declared.reading.Catalog.{Catalog}
-use Rattle.ato_catalog.specs.declared.rows.CatalogRow.{CatalogRow}
-use Rattle.ato_catalog.proofs.CatalogueLaws.{contents_read}
+use Rattle.ato_first_catalog.specs.Catalogue.{ShowsContents, ShowsRows}
+use Rattle.ato_first_catalog.specs.Contents.{Contents}
+use Rattle.ato_first_catalog.specs.Rows.{PlainRow}
+use Rattle.ato_first_catalog.specs.WellMade as catalogues
+use Rattle.ato_first_catalog.specs.declared.reading.Catalog.{Catalog}
+use Rattle.ato_first_catalog.specs.declared.rows.CatalogRow.{CatalogRow}
+use Rattle.ato_first_catalog.proofs.CatalogueLaws.{contents_read}
 use Rattle.ato_cert.specs.Laws as certs
 use Rattle.ato_cert.specs.Problems.{IsWellMade, HasAtMost, HasAtMostOf, HasNumbersBelow}
 use Rattle.ato_cert.specs.Readable.{IsReadable}

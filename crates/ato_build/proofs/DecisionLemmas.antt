@@ -9,11 +9,11 @@ use Rattle.ato_frac.specs.declared.fraction.Frac.{Frac}
 use Rattle.ato_frac.specs.Fractions.{value_of}
 use Rattle.std.proofs.lemmas.List.Elements.{All-cons, All-nil, Contains-append_right}
 use Rattle.ato_base.proofs.ClassLaws.{nowhere, first, later, cases}
-use Rattle.ato_catalog.specs.Catalogue.{IsWhole, ShowsRows, ShowsContents}
-use Rattle.ato_catalog.specs.Contents.{Contents, numbered}
-use Rattle.ato_catalog.specs.Rows.{PlainRow}
-use Rattle.ato_catalog.specs.declared.rows.CatalogRow.{CatalogRow}
-use Rattle.ato_catalog.specs.declared.reading.Catalog.{Catalog}
+use Rattle.ato_first_catalog.specs.Catalogue.{IsWhole, ShowsRows, ShowsContents}
+use Rattle.ato_first_catalog.specs.Contents.{Contents, numbered}
+use Rattle.ato_first_catalog.specs.Rows.{PlainRow}
+use Rattle.ato_first_catalog.specs.declared.rows.CatalogRow.{CatalogRow}
+use Rattle.ato_first_catalog.specs.declared.reading.Catalog.{Catalog}
 use Rattle.ato_cert.specs.Good as problems
 use Rattle.ato_search.specs.Decides as searches
 use Rattle.ato_cert.specs.Nodes.{nodes}

@@ -15,7 +15,7 @@ use Rattle.ato_first.specs.FirstTokens.{syntax_fault}
 use Rattle.ato_build.specs.Entry.{word_fault, entry_file}
 use Rattle.ato_first.specs.FirstNets.{net_pin, by_signal, IsNetList}
 use Rattle.ato_first.specs.FirstParts.{part_of, candidates}
-use Rattle.ato_catalog.specs.Rows.{PlainRow}
+use Rattle.ato_first_catalog.specs.Rows.{PlainRow}
 use Rattle.ato_first.specs.FirstPoints.{IsJoinedByLine}
 use Rattle.ato_writers.specs.Netlists.{list_text, comp_text, net_text, node_text, field, quoted}
 use Rattle.ato_build.specs.Texts.{column_at, files_with, also_text, fault_text, accepted_text, rejected_text, place_in_text, word_text}

@@ -9,8 +9,8 @@ use Rattle.ato_first.specs.FirstTokens.{syntax_fault}
 use Rattle.ato_first.proofs.FirstFormLaws.{one_file, bad_no_file, one_bad}
 use Rattle.ato_first.specs.declared.first_form.Block.{Block}
 use Rattle.ato_first.specs.declared.first_form.Line.{Line}
-use Rattle.ato_catalog.specs.Contents.{Contents}
-use Rattle.ato_catalog.proofs.CatalogueLaws.{one_contents, one_fault, never_both}
+use Rattle.ato_first_catalog.specs.Contents.{Contents}
+use Rattle.ato_first_catalog.proofs.CatalogueLaws.{one_contents, one_fault, never_both}
 use Rattle.ato_first.proofs.FirstNumberLemmas.{or_false, or_right}
 use Rattle.ato_build.specs.Entry.{GivesBlock, StandsInEntry, IsLineFault, LacksBlock, IsNamed, line_fault, entry_file}
 use Rattle.ato_first.specs.FirstParts.{is_empty_range, HasRanges}

@@ -7,10 +7,10 @@ use Rattle.std.proofs.lemmas.List.Elements.{All-from_recursion}
 use Rattle.ato_frac.specs.declared.fraction.Frac.{Frac}
 use Rattle.ato_frac.specs.OneNumber.{fraction_same}
 use Rattle.ato_rational.proofs.Order.{≈ℚ_sym, ≈ℚ_trans}
-use Rattle.ato_catalog.specs.Catalogue.{IsWhole}
-use Rattle.ato_catalog.specs.Contents.{Contents, cell_under}
-use Rattle.ato_catalog.specs.Rows.{PlainRow}
-use Rattle.ato_catalog.specs.declared.header.Column.{Column}
+use Rattle.ato_first_catalog.specs.Catalogue.{IsWhole}
+use Rattle.ato_first_catalog.specs.Contents.{Contents, cell_under}
+use Rattle.ato_first_catalog.specs.Rows.{PlainRow}
+use Rattle.ato_first_catalog.specs.declared.header.Column.{Column}
 use Rattle.ato_cert.specs.Problems.{HasAtMost, HasAtMostOf, HasNumbersBelow, HasNumbersBelowOf}
 use Rattle.ato_cert.specs.declared.problem.Problem.{Problem}
 use Rattle.ato_cert.specs.declared.problem.Row.{Row}

@@ -6,14 +6,14 @@ use Rattle.std.proofs.lemmas.List.Elements.{All-cons, All-nil}
 use Rattle.std.proofs.lemmas.List.Kept.{AllPairs-cons}
 use Rattle.ato_frac.specs.Fractions.{value_of}
 use Rattle.ato_rational.specs.Rational.{◌≤ℚ◌}
-use Rattle.ato_catalog.specs.Catalogue.{IsWhole, ShowsCell, ShowsRow, ShowsRows, ShowsContents}
-use Rattle.ato_catalog.specs.Contents.{Contents, cell_under}
-use Rattle.ato_catalog.specs.Rows.{PlainRow}
-use Rattle.ato_catalog.specs.WellMade as catalogues
-use Rattle.ato_catalog.specs.declared.rows.CatalogRow.{CatalogRow}
-use Rattle.ato_catalog.specs.declared.reading.Catalog.{Catalog}
-use Rattle.ato_catalog.proofs.CatalogueLaws.{under}
-use Rattle.ato_catalog.proofs.WholeLaws.{at_most_from_whole}
+use Rattle.ato_first_catalog.specs.Catalogue.{IsWhole, ShowsCell, ShowsRow, ShowsRows, ShowsContents}
+use Rattle.ato_first_catalog.specs.Contents.{Contents, cell_under}
+use Rattle.ato_first_catalog.specs.Rows.{PlainRow}
+use Rattle.ato_first_catalog.specs.WellMade as catalogues
+use Rattle.ato_first_catalog.specs.declared.rows.CatalogRow.{CatalogRow}
+use Rattle.ato_first_catalog.specs.declared.reading.Catalog.{Catalog}
+use Rattle.ato_first_catalog.proofs.CatalogueLaws.{under}
+use Rattle.ato_first_catalog.proofs.WholeLaws.{at_most_from_whole}
 use Rattle.ato_cert.specs.Problems.{IsWellMadeSlot}
 use Rattle.ato_cert.specs.declared.problem.Row.{Row}
 use Rattle.ato_first.specs.FirstParts.{Part, Candidate, candidate_in, with_candidate, candidates_from, candidates}
@@ -21,7 +21,7 @@ use Rattle.ato_build.specs.Problems.{IsRowOf, IsSlotOf}
 use Rattle.std.specs.Str.{bytes_eq}
 use Rattle.std.proofs.lemmas.List.{drop_all, drop-drop}
 use Rattle.ato_frac.specs.declared.fraction.Frac.{Frac}
-use Rattle.ato_catalog.specs.declared.header.Column.{Column}
+use Rattle.ato_first_catalog.specs.declared.header.Column.{Column}
 use Rattle.ato_build.specs.CatalogueRows.{first_cell, row_in, with_row, rows_from}
 
 -- ---- the cell under a name

@@ -5,7 +5,7 @@ use Rattle.std.proofs.lemmas.List.Concat.{flat_map-append}
 use Rattle.ato_base.specs.declared.faults.Fault.{Fault}
 use Rattle.ato_first.specs.FirstForm.{lined, line_text, head_text, lines_text, IsFile}
 use Rattle.ato_first.proofs.FirstFormLaws.{bad_within}
-use Rattle.ato_catalog.proofs.PlaceLaws.{IsCellFault}
+use Rattle.ato_first_catalog.proofs.PlaceLaws.{IsCellFault}
 use Rattle.ato_first.specs.declared.first_form.Line.{Line}
 use Rattle.ato_first.specs.declared.first_form.Block.{Block}
 use Rattle.ato_build.specs.Entry.{StandsInEntry, IsLineFault}

@@ -3,7 +3,7 @@
 use Rattle.std.specs.Prelude.{ℕ, List}
 use Rattle.ato_base.specs.declared.nets.NetList.{NetList}
 use Rattle.ato_first.specs.declared.first_form.Block.{Block}
-use Rattle.ato_catalog.specs.Contents.{Contents}
+use Rattle.ato_first_catalog.specs.Contents.{Contents}
 use Rattle.ato_cert.specs.declared.cert.Cert.{Cert}
 use Rattle.ato_cert.specs.declared.problem.Problem.{Problem}
 use Rattle.ato_first.specs.FirstNets.{IsNetList, SharesExactly}

@@ -2,9 +2,9 @@
 use Rattle.std.specs.Prelude.{ℕ, ◌+◌, if◌then◌else◌, List, [], ◌∷◌, Option, Some, None, option_map}
 use Rattle.std.specs.Str.{bytes_eq}
 use Rattle.ato_frac.specs.declared.fraction.Frac.{Frac}
-use Rattle.ato_catalog.specs.Contents.{cell_under}
-use Rattle.ato_catalog.specs.declared.header.Column.{Column}
-use Rattle.ato_catalog.specs.declared.rows.CatalogRow.{CatalogRow}
+use Rattle.ato_first_catalog.specs.Contents.{cell_under}
+use Rattle.ato_first_catalog.specs.declared.header.Column.{Column}
+use Rattle.ato_first_catalog.specs.declared.rows.CatalogRow.{CatalogRow}
 use Rattle.ato_cert.specs.declared.problem.Row.{Row}
 
 -- the first cell, or nothing where there is none

@@ -3,7 +3,7 @@ use Rattle.std.specs.Prelude.{◌≡◌, ℕ, ◌^◌, Option, Ok, Err}
 use Rattle.std.specs.FinMap.{get}
 use Rattle.ato_base.specs.declared.faults.Fault.{Fault}
 use Rattle.ato_base.specs.declared.faults.FaultKind.TheVariants as kinds
-use Rattle.ato_catalog.specs.Contents.{Contents, contents_of}
+use Rattle.ato_first_catalog.specs.Contents.{Contents, contents_of}
 use Rattle.ato_outside.specs.Files.{Files}
 use Rattle.ato_words.specs.declared.words.Task.{Task}
 use Rattle.ato_words.specs.declared.words.Task.TheVariants as tasks

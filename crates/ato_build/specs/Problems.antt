@@ -1,8 +1,8 @@
 -- The problem that a certificate is about, of a part and a catalogue.
 use Rattle.std.specs.Prelude.{◌≡◌, Option, Some, None}
 use Rattle.std.specs.List.{AllZip}
-use Rattle.ato_catalog.specs.Catalogue.{IsWhole}
-use Rattle.ato_catalog.specs.Contents.{Contents}
+use Rattle.ato_first_catalog.specs.Catalogue.{IsWhole}
+use Rattle.ato_first_catalog.specs.Contents.{Contents}
 use Rattle.ato_cert.specs.Valid.{IsValid}
 use Rattle.ato_cert.specs.declared.cert.Cert.{Cert}
 use Rattle.ato_cert.specs.declared.problem.Problem.{Problem}

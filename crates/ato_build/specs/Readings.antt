@@ -2,8 +2,8 @@
 use Rattle.std.specs.Prelude.{◌≡◌, ℕ, List, Option, Result, Ok, Err}
 use Rattle.ato_base.specs.declared.faults.Fault.{Fault}
 use Rattle.ato_base.specs.declared.memory.NoMemory.{NoMemory}
-use Rattle.ato_catalog.specs.Catalogue.{IsCatalogue}
-use Rattle.ato_catalog.specs.WellMade.{IsWellMade}
+use Rattle.ato_first_catalog.specs.Catalogue.{IsCatalogue}
+use Rattle.ato_first_catalog.specs.WellMade.{IsWellMade}
 use Rattle.ato_outside.specs.Files.{Files}
 use Rattle.ato_words.specs.Words.{IsJob}
 use Rattle.ato_words.specs.declared.words.Task.{Task}

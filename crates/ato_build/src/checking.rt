@@ -3,9 +3,9 @@ ghost use Rattle.std.specs.Prelude.{◌≡◌, ◌≤◌, ◌<◌, ◌^◌, Opti
 ghost use Rattle.std.specs.List.{list_all};
 ghost use Rattle.ato_base.specs.declared.faults.Fault.{Fault};
 ghost use Rattle.ato_first.specs.FirstForm.{is_line};
-ghost use Rattle.ato_catalog.specs.Catalogue.{ShowsContents};
-ghost use Rattle.ato_catalog.specs.Contents.{Contents};
-ghost use Rattle.ato_catalog.specs.WellMade as catalogues;
+ghost use Rattle.ato_first_catalog.specs.Catalogue.{ShowsContents};
+ghost use Rattle.ato_first_catalog.specs.Contents.{Contents};
+ghost use Rattle.ato_first_catalog.specs.WellMade as catalogues;
 ghost use Rattle.ato_cert.specs.Problems.{IsWellMade, HasAtMost, HasNumbersBelow};
 ghost use Rattle.ato_cert.specs.Texts.{proof_word};
 ghost use Rattle.ato_first.specs.FirstParts.{HasRanges};
@@ -34,10 +34,10 @@ use crate::reading::{Reading, Sources, read_project};
 use crate::refusing::{refuse, unread};
 use crate::texts::{accepted_text, rejected_text};
 use ato_base::{FaultKind, NoMemory};
-use ato_catalog::Catalog;
 use ato_cert::{CertRefusal, Problem, Proof, Verdict, read_cert};
 use ato_check::{Checked, check};
 use ato_first::{Block, part_of};
+use ato_first_catalog::Catalog;
 use ato_outside::Shelf;
 use std::alloc::Global;
 

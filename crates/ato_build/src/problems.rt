@@ -2,9 +2,9 @@
 ghost use Rattle.std.specs.Prelude.{◌≡◌, ◌+◌, ◌≤◌, ◌<◌, List, ℕ, Some, None, length, drop, IfOk};
 ghost use Rattle.ato_rational.specs.Rational.{◌≤ℚ◌};
 ghost use Rattle.ato_first.specs.FirstForm.{is_line};
-ghost use Rattle.ato_catalog.specs.Catalogue.{ShowsContents};
-ghost use Rattle.ato_catalog.specs.Contents.{Contents, cell_under};
-ghost use Rattle.ato_catalog.specs.WellMade as catalogues;
+ghost use Rattle.ato_first_catalog.specs.Catalogue.{ShowsContents};
+ghost use Rattle.ato_first_catalog.specs.Contents.{Contents, cell_under};
+ghost use Rattle.ato_first_catalog.specs.WellMade as catalogues;
 ghost use Rattle.ato_cert.specs.Problems.{IsWellMade, IsWellMadeSlot, HasAtMost};
 ghost use Rattle.ato_first.specs.FirstParts as parts;
 ghost use Rattle.ato_build.specs.CatalogueRows.{first_cell, row_in, rows_from};
@@ -12,9 +12,9 @@ ghost use Rattle.ato_first.specs.ShownParts.{shown_part, IsInOrder};
 ghost use Rattle.ato_build.specs.Problems.{IsProblem, IsSlotOf};
 
 use ato_base::{List, NoMemory};
-use ato_catalog::{Catalog, CatalogRow, Column, whole};
 use ato_cert::{Problem, Row, Slot};
 use ato_first::Part;
+use ato_first_catalog::{Catalog, CatalogRow, Column, whole};
 use ato_frac::Frac;
 use std::alloc::Global;
 

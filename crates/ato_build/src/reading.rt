@@ -17,8 +17,8 @@ use crate::fetching::{Fetched, fetch};
 use crate::project::Project;
 use crate::refusing::{refuse, unread};
 use ato_base::{Fault, FaultKind, List, NoMemory, Refusal};
-use ato_catalog::{Catalog, read_catalog};
 use ato_first::Block;
+use ato_first_catalog::{Catalog, read_catalog};
 use ato_outside::Shelf;
 use std::alloc::Global;
 

@@ -4,7 +4,7 @@ use Rattle.std.specs.Prelude.{Some, None, if◌then◌else◌, nat_le}
 use Rattle.std.specs.Char.{is_ascii_digit}
 use Rattle.std.specs.List.{list_all}
 use Rattle.ato_first.specs.FirstForm.{is_digit, is_short_number}
-use Rattle.ato_catalog.specs.Ranges.{digits_value, number_of}
+use Rattle.ato_first_catalog.specs.Ranges.{digits_value, number_of}
 
 digits_same : (text : List ℕ) → list_all is_digit text ≡ list_all is_ascii_digit text
 digits_same [] = refl

@@ -5,7 +5,7 @@ use Rattle.std.specs.List.{list_all, list_any}
 use Rattle.std.proofs.lemmas.Bool.{ltb-false}
 use Rattle.ato_first.specs.FirstForm.{is_line}
 use Rattle.ato_first.specs.PartLines.{kind_of, attribute_of, assertion_of}
-use Rattle.ato_catalog.specs.Ranges.{digits_value}
+use Rattle.ato_first_catalog.specs.Ranges.{digits_value}
 use Rattle.ato_first.specs.ShownParts.{shown_part, IsInOrder}
 use Rattle.ato_first.specs.FirstParts.{part_with, part_of, is_empty_range}
 use Rattle.ato_first.specs.FirstParts as parts

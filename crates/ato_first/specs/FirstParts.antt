@@ -10,10 +10,10 @@ use Rattle.ato_first.specs.declared.first_form.Assertion.{Assertion}
 use Rattle.ato_first.specs.declared.first_form.Line.{Line}
 use Rattle.ato_first.specs.declared.first_form.Line.TheVariants as lines
 use Rattle.ato_first.specs.declared.first_form.Block.{Block}
-use Rattle.ato_catalog.specs.Contents.{Contents, cell_under, numbered}
-use Rattle.ato_catalog.specs.Ranges.{digits_value}
-use Rattle.ato_catalog.specs.Rows.{PlainRow}
-use Rattle.ato_catalog.specs.declared.header.Column.{Column}
+use Rattle.ato_first_catalog.specs.Contents.{Contents, cell_under, numbered}
+use Rattle.ato_first_catalog.specs.Ranges.{digits_value}
+use Rattle.ato_first_catalog.specs.Rows.{PlainRow}
+use Rattle.ato_first_catalog.specs.declared.header.Column.{Column}
 use Rattle.ato_first.specs.FirstPoints.{IsFirstLineAt}
 
 -- the kind of a part, its attribute, and the least and the greatest value that is asserted of it

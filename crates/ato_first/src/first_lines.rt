@@ -4,14 +4,14 @@ ghost use Rattle.std.specs.List.{list_any, list_all};
 ghost use Rattle.std.specs.Option.{option_copied};
 ghost use Rattle.ato_first.specs.FirstForm.{lined, line_text, lines_text, end_text, point_text, is_line, is_short_number};
 ghost use Rattle.ato_first.specs.declared.first_form.Line.{Line};
-ghost use Rattle.ato_catalog.specs.Ranges.{digits_value};
+ghost use Rattle.ato_first_catalog.specs.Ranges.{digits_value};
 ghost use Rattle.ato_first.specs.FirstPoints.{is_other, is_unknown, is_unknown_end};
 ghost use Rattle.ato_first.specs.FirstParts.{is_empty_range};
 
 use crate::first_form::{Assertion, End, Line, Point};
 use crate::text_set::TextSet;
 use ato_base::Text;
-use ato_catalog::number;
+use ato_first_catalog::number;
 
 /// A test of a line.
 pub(crate) trait LineTest {

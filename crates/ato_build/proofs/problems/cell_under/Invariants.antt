@@ -1,5 +1,5 @@
 use Rattle.std.proofs.Common.{◌≡◌, drop}
-use Rattle.ato_catalog.specs.Contents.{cell_under}
+use Rattle.ato_first_catalog.specs.Contents.{cell_under}
 use Rattle.ato_build.proofs.problems.cell_under.Given as goal
 
 abbrev pub invariant-loop-at : goal.invariant-loop-at

@@ -1,6 +1,6 @@
 use Rattle.std.proofs.Common.{subst}
-use Rattle.ato_catalog.specs.Catalogue.{IsRefused}
-use Rattle.ato_catalog.proofs.PlaceLaws.{in_cell}
+use Rattle.ato_first_catalog.specs.Catalogue.{IsRefused}
+use Rattle.ato_first_catalog.proofs.PlaceLaws.{in_cell}
 use Rattle.ato_build.proofs.ReadingLemmas.{contents_end, fault_not_missing}
 use Rattle.ato_build.proofs.WithinLemmas.{cell_within, alone_within}
 use Rattle.ato_build.proofs.reading.sources_of.Goals as goal
