@@ -1,0 +1,10 @@
+pub mod CellLaws
+pub mod HeadingLaws
+pub mod RecordLaws
+pub mod PriceLaws
+pub mod LimitLaws
+pub mod ValueLaws
+pub mod RowLaws
+pub mod CatalogueLaws
+pub mod OneCatalogue
+pub mod WellMadeLaws

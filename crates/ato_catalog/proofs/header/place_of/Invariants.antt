@@ -1,0 +1,8 @@
+use Rattle.std.proofs.Common.{◌≡◌, ◌+◌, drop}
+use Rattle.std.specs.List.{position_or_len}
+use Rattle.std.specs.Str.{bytes_eq}
+use Rattle.csv.specs.Records.{fields_of}
+use Rattle.ato_catalog.proofs.header.place_of.Given as goal
+
+abbrev pub invariant-loop-place : goal.invariant-loop-place
+invariant-loop-place l = position_or_len (bytes_eq l.heading) (fields_of l.header) ≡ l.place + position_or_len (bytes_eq l.heading) (drop l.place (fields_of l.header))

@@ -1,0 +1,11 @@
+pub mod Limits
+pub mod Records
+pub mod Prices
+pub mod Values
+pub mod Header
+pub mod HeaderFaults
+pub mod Rows
+pub mod Catalogue
+pub mod Parts
+pub mod Reads
+pub mod WellMade
