@@ -1,6 +1,9 @@
+pub mod Corners
 pub mod Ends
 pub mod Folds
 pub mod Passes
+pub mod Points
 pub mod Refusals
 pub mod Results
 pub mod Sets
+pub mod Targets

@@ -16,8 +16,10 @@ macro_rules! end {
 
 mod ends;
 mod folds;
+mod points;
 mod products;
 mod sums;
+mod targets;
 
 use ato_frac::{Exact, at_most, greater, lesser};
 use std::alloc::AllocError;
@@ -84,7 +86,7 @@ impl<Q: Exact> Interval<Q> {
     }
 
     /// Whether the interval holds a number, or lies above or below it.
-    pub(crate) fn holds(&self, value: &Q) -> bool
+    pub fn holds(&self, value: &Q) -> bool
         ensures { MatchBool result
             (Holds Q.value self.now (Q.value value.now))
             ((Q.value value.now <ℚ Q.value self.now.low)

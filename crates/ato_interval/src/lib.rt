@@ -11,10 +11,12 @@
 
 mod faults;
 mod interval;
+mod laws;
 mod set;
 #[cfg(test)]
 mod tests;
 
 pub use faults::RangeFault;
 pub use interval::Interval;
+pub use laws::{ends_at_corners, inside_one_part, operations_on_points};
 pub use set::IntervalSet;

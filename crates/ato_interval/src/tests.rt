@@ -1,3 +1,5 @@
+mod targets;
+
 use crate::{Interval, IntervalSet, RangeFault};
 use ato_base::NoMemory;
 use ato_frac::{Coin, Divides, Exact, Frac};
