@@ -1,0 +1,9 @@
+pub mod AtPointLaws
+pub mod EvaluationLaws
+pub mod HeldLaws
+pub mod LabelLaws
+pub mod MarkLaws
+pub mod OnceLaws
+pub mod StorageLaws
+pub mod TableLaws
+pub mod ValueLaws

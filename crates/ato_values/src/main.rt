@@ -1,0 +1,36 @@
+//! The program `ato_values`: reads tables of operations from the files that it is given, and prints what nodes come to.
+//!
+//! A line `table` begins a table, a line with the name of an operation and the numbers of its children puts a node in, `at` is followed by the
+//! entries of the variables as decimal numbers, and `value` by the number of a node and, where it is to be worked out more than once, how often.
+#![tactic(auto)]
+
+mod reading;
+mod session;
+
+use ato_base::NoMemory;
+use session::{Session, Stop};
+use std::{env, fs, io};
+
+/// Carries out the lines of a text. An answer is the text that is printed.
+fn carried_out(session: &mut Session, text: &str, out: &mut String) -> Result<(), Stop> {
+    for line in text.lines() {
+        session.line(line, out)?;
+    }
+    Ok(())
+}
+
+fn main(rt: HostRuntime) -> io::Result<()> {
+    for name in env::args(&rt)?.skip(1) {
+        let text = fs::read_to_string(&rt, name.as_str())?;
+        let mut out = String::new(rt.alloc());
+        let mut session = Session::new(rt.alloc());
+        let done = carried_out(&mut session, text.as_str(), &mut out);
+        print!(rt; "{out}")?;
+        match done {
+            Ok(()) => (),
+            Err(Stop::Form) => println!(rt; "a line has no meaning")?,
+            Err(Stop::NoMemory) => println!(rt; "out of memory")?,
+        }
+    }
+    Ok(())
+}
