@@ -1,0 +1,12 @@
+use Rattle.ato_expr.specs.declared.ops.Relation.TheVariants as relations
+use Rattle.ato_eval.specs.Corners.{narrowed}
+use Rattle.ato_eval.proofs.SideLaws.{less_judged, stop_judged}
+use Rattle.ato_eval.proofs.judging.judge_less.Goals as goal
+
+pub returns-in-Ok-clause-judges : goal.returns-in-Ok-clause-judges
+returns-in-Ok-clause-judges c =
+    less_judged c.args.table.now (narrowed c.args.ranges.now c.args.high.now) c.args.left c.args.right _ _ c.less.result c.in-Ok.ensures.sides.0 c.in-Ok.ensures.sides.1 c.less.ensures
+
+pub returns-in-Err-clause-judges : goal.returns-in-Err-clause-judges
+returns-in-Err-clause-judges c =
+    stop_judged c.args.table.now (narrowed c.args.ranges.now c.args.high.now) (relations.Less c.args.left c.args.right) c.in-Err.reason c.stopped.result c.stopped.ensures c.in-Err.ensures.sides

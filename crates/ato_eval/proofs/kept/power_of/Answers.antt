@@ -1,0 +1,6 @@
+use Rattle.ato_expr.specs.declared.ops.Op.TheVariants as ops
+use Rattle.ato_eval.proofs.KeptLaws.{op_told}
+use Rattle.ato_eval.proofs.kept.power_of.Goals as goal
+
+pub returns : goal.returns
+returns c = λ ranges. op_told (ops.Power c.args.exponent) ranges c.args.scratch.now.ends c.args.nodes.now _ c.power.result c.one-only.ensures (c.power.ensures ranges)
