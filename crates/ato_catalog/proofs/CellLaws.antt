@@ -2,6 +2,7 @@
 use Rattle.std.proofs.Common.{◌≡◌, ◌<◌, ◌≤◌, ◌+◌, ◌∷◌, [], ℕ, zero, suc, List, Bool, true, false, length, get_or, take, drop, arith, refl, add-one, drop-cons}
 use Rattle.std.specs.Prelude.{◌&&◌}
 use Rattle.std.specs.List.{list_all}
+use Rattle.std.specs.Str.{chars, is_utf8}
 use Rattle.std.proofs.lemmas.List.{drop_all}
 use Rattle.std.proofs.lemmas.List.Folds.{list_all_more}
 
@@ -35,3 +36,11 @@ pub list_all_or : {X : Type 0} (p : X → Bool) (xs : List X) (i : ℕ) (d : X) 
 list_all_or p [] i d all past = past
 list_all_or p (x ∷ xs) zero d all past = (and-true (p x) (list_all p xs) all).0
 list_all_or p (x ∷ xs) (suc i) d all past = list_all_or p xs i d (and-true (p x) (list_all p xs) all).1 past
+
+no_bytes : is_utf8 [] ≡ true
+unfolding is_utf8 chars
+no_bytes = refl
+
+-- the cell at any place is text where all cells are
+pub text_cell : (cells : List (List ℕ)) (i : ℕ) → list_all is_utf8 cells ≡ true → is_utf8 (get_or cells i []) ≡ true
+text_cell cells i all = list_all_or is_utf8 cells i [] all no_bytes

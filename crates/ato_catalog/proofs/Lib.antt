@@ -4,6 +4,7 @@ pub mod RecordLaws
 pub mod PriceLaws
 pub mod LimitLaws
 pub mod ValueLaws
+pub mod MemoLaws
 pub mod RowLaws
 pub mod CatalogueLaws
 pub mod OneCatalogue

@@ -1,4 +1,5 @@
 pub mod Limits
+pub mod Memos
 pub mod Records
 pub mod Prices
 pub mod Values

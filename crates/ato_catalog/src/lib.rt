@@ -11,6 +11,8 @@
 mod cells;
 mod header;
 mod layout;
+mod lists;
+mod memo;
 mod parts;
 mod prices;
 mod reading;

@@ -14,6 +14,8 @@ ghost use Rattle.ato_catalog.specs.WellMade.{IsWellMade};
 use crate::cells::cell_at;
 use crate::header::{Column, Layout, find_header_fault};
 use crate::layout::read_layout;
+use crate::lists::with_room;
+use crate::memo::Memo;
 use crate::parts::note_part;
 use crate::records::read_records;
 use crate::rows::{CatalogRow, RowValues, is_whole, read_row, read_values};
@@ -52,6 +54,7 @@ fn read_next<'a>(
     layout: &Layout,
     most: usize,
     before: usize,
+    memo: &mut Memo<'a>,
     parts: &mut HashSet<&'a [u8]>,
     row: &'a ByteRecord,
 ) -> Result<CatalogRow, Refusal>
@@ -73,7 +76,8 @@ fn read_next<'a>(
     if !is_whole(layout, row) {
         return Err(fault(alloc, FaultKind::BadRow, number, 0));
     }
-    let values = match read_values(alloc, layout.roles.as_slice(), row)? {
+    let attributes = layout.attributes.len();
+    let values = match read_values(alloc, memo, attributes, layout.roles.as_slice(), row)? {
         RowValues::Good(values) => values,
         RowValues::Bad(column) => return Err(fault(alloc, FaultKind::BadCell, number, column)),
     };
@@ -97,10 +101,11 @@ fn read_rows(
     ensures rows { IfOk result (AreRows layout.now [] (map fields_of records.now)) }
     ensures fault { IfErr result (IsRefusalBy (IsFirstFault layout.now [] (map fields_of records.now))) }
 {
+    let mut memo = Memo::new(alloc)?;
     let mut parts = HashSet::new(alloc);
-    let mut rows = List::new(alloc);
+    let mut rows = with_room(alloc, records.len())?;
     for (before, row) in records.iter().enumerate() {
-        rows.push(read_next(alloc, layout, most, before, &mut parts, row)?)?;
+        rows.push(read_next(alloc, layout, most, before, &mut memo, &mut parts, row)?)?;
     }
     Ok(rows)
 }

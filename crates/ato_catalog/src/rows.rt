@@ -7,8 +7,10 @@ ghost use Rattle.ato_catalog.specs.Limits.{most_columns};
 ghost use Rattle.ato_catalog.specs.Reads.{ReadsCells};
 ghost use Rattle.ato_catalog.specs.Rows.{AreValues, IsRow, is_whole};
 
-use crate::cells::{cell_at, copy_at, is_text, text_at};
+use crate::cells::{cell_at, copy_at, is_text};
 use crate::header::{Layout, Role};
+use crate::lists::with_room;
+use crate::memo::Memo;
 use crate::prices::read_price;
 use crate::values::{Cell, read_cell};
 use ato_base::{List, NoMemory, Text};
@@ -50,20 +52,23 @@ pub(crate) fn is_whole(layout: &Layout, row: &ByteRecord) -> bool
     row.len() == layout.roles.len() && is_text(row)
 }
 
-/// The values of a row's attributes, or the first column with a bad cell.
-pub(crate) fn read_values(
+/// The values of a row's attributes, or the first column with a bad cell. Room is taken at once for so
+/// many values as there are attributes.
+pub(crate) fn read_values<'a>(
     alloc: Global,
+    memo: &mut Memo<'a>,
+    attributes: usize,
     roles: &[Role],
-    row: &ByteRecord,
+    row: &'a ByteRecord,
 ) -> Result<RowValues, NoMemory>
     requires narrow { length roles.now ≤ most_columns }
     requires wide { length (fields_of row.now) ≡ length roles.now }
     requires text { list_all is_utf8 (fields_of row.now) ≡ true }
     ensures { IfOk result (ReadsCells roles.now (fields_of row.now)) }
 {
-    let mut values = List::new(alloc);
+    let mut values = with_room(alloc, attributes)?;
     for (place, role) in roles.iter().enumerate() {
-        match read_cell(*role, text_at(row, place)) {
+        match read_cell(memo, *role, cell_at(row, place)) {
             Cell::Bad => return Ok(RowValues::Bad(place as u32 + 1)),
             Cell::Plain => {}
             Cell::Value(value) => values.push(value)?,

@@ -1,10 +1,12 @@
 //! The cells of a row, each read as its column asks for.
+ghost use Rattle.std.specs.Prelude.{◌≡◌, true};
+ghost use Rattle.std.specs.Str.{is_utf8};
 ghost use Rattle.ato_catalog.specs.Reads.{ReadsCell};
 
-use crate::cells::as_text;
 use crate::header::Role;
+use crate::memo::Memo;
 use crate::prices::read_price;
-use ato_units::{Quantity, read_quantity};
+use ato_units::Quantity;
 
 /// What a cell is.
 #[derive(Clone, Copy)]
@@ -18,20 +20,21 @@ pub(crate) enum Cell {
 }
 
 /// An attribute's cell.
-fn read_value(cell: &str) -> Cell
+fn read_value<'a>(memo: &mut Memo<'a>, cell: &'a [u8]) -> Cell
+    requires { is_utf8 cell.now ≡ true }
     ensures { ReadsCell Role.Attribute cell.now result }
 {
     if cell.len() == 0 {
         return Cell::Value(None);
     }
-    match read_quantity(cell) {
-        Ok(quantity) => Cell::Value(Some(quantity)),
-        Err(_) => Cell::Bad,
+    match memo.read(cell) {
+        Some(quantity) => Cell::Value(Some(quantity)),
+        None => Cell::Bad,
     }
 }
 
 /// A cell that may not be empty.
-fn read_named(cell: &str) -> Cell
+fn read_named(cell: &[u8]) -> Cell
     ensures part { ReadsCell Role.Part cell.now result }
     ensures kind { ReadsCell Role.Kind cell.now result }
 {
@@ -43,18 +46,19 @@ fn read_named(cell: &str) -> Cell
 }
 
 /// The cell of a price.
-fn read_priced(cell: &str) -> Cell
+fn read_priced(cell: &[u8]) -> Cell
     ensures { ReadsCell Role.Price cell.now result }
 {
-    if cell.len() == 0 || read_price(cell.as_bytes()).is_some() {
+    if cell.len() == 0 || read_price(cell).is_some() {
         Cell::Plain
     } else {
         Cell::Bad
     }
 }
 
-/// A cell of a column.
-pub(crate) fn read_cell(role: Role, cell: &str) -> Cell
+/// A cell of a column, which is UTF-8.
+pub(crate) fn read_cell<'a>(memo: &mut Memo<'a>, role: Role, cell: &'a [u8]) -> Cell
+    requires { is_utf8 cell.now ≡ true }
     ensures { ReadsCell role cell.now result }
 {
     match role {
@@ -64,6 +68,6 @@ pub(crate) fn read_cell(role: Role, cell: &str) -> Cell
         Role::Footprint => Cell::Plain,
         Role::Price => read_priced(cell),
         Role::Remark => Cell::Plain,
-        Role::Attribute => read_value(cell),
+        Role::Attribute => read_value(memo, cell),
     }
 }

@@ -10,7 +10,7 @@ use Rattle.ato_catalog.proofs.reading.read_rows.Goals as goal
 
 pub returns-in_err-read_next-clause-fault : goal.returns-in_err-read_next-clause-fault
 returns-in_err-read_next-clause-fault c =
-    let p = err_from_is_err_and c.from_residual.result c.from_residual.ensures.1 in
+    let p = err_from_is_err_and c.from_residual-in_err-read_next.result c.from_residual-in_err-read_next.ensures.1 in
     let layout = c.args.layout.now in
     let part = part_in layout (fields_of c.index-records-before.result) in
     rw (p.1, p.2) (refused_here fields_of layout c.args.records.now c.loop-before.before c.index-records-before.result c.loop-before.rows (has_part c.loop-before.parts part) _
