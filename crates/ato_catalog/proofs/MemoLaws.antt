@@ -1,8 +1,6 @@
 -- What is kept of texts stays right where places are put or read.
-use Rattle.std.proofs.Common.{◌≡◌, ◌<◌, ◌∷◌, ◌++◌, [], ℕ, zero, suc, List, Option, Some, None, true, length, get_or, subst, sym, arith, ◌∙◌}
+use Rattle.std.proofs.Common.{◌≡◌, ◌<◌, ◌∷◌, ◌++◌, [], ℕ, zero, suc, List, Option, Some, None, length, get_or, subst, sym, arith, ◌∙◌}
 use Rattle.std.specs.Prelude.{MatchOption, slice_set}
-use Rattle.std.specs.Str.{bytes_eq}
-use Rattle.std.proofs.lemmas.Slice.Eq.{bytes_eq-Decides}
 use Rattle.ato_units.specs.declared.quantities.Quantity.{Quantity}
 use Rattle.ato_catalog.specs.Memos.{AreKept, IsKept}
 use Rattle.ato_catalog.specs.Values.{IsNoQuantity, IsQuantity}

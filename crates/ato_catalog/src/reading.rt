@@ -174,7 +174,8 @@ fn read_first(alloc: Global, bytes: &[u8], most: usize) -> Result<Catalog, Refus
 ///
 /// The answer is the catalogue, or the first fault: of the header in row 0, and then row by row, of
 /// the number of rows, of the row as a whole, of its cells by column, and of a part that an earlier row
-/// has. The time is linear in the bytes, and all rows are held in memory.
+/// has. The time is linear in the bytes, and all rows are held in memory. Of the texts of quantities that
+/// were read before, at most 4,096 are kept with what they are, and not read again.
 #[tactic(auto, unfolding(crate::specs::Limits::most_rows))]
 pub fn read_catalog(alloc: Global, bytes: &[u8]) -> Result<Catalog, Refusal>
     ensures catalogue { IfOk result (IsCatalogue bytes.now) }
