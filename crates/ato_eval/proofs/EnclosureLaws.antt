@@ -1,12 +1,10 @@
 -- An interval of a node holds its value at every point of the ranges, and so judgements are right at every point.
-use Rattle.std.proofs.Common.{◌≡◌, ℕ, zero, suc, ◌<◌, Bool, true, false, List, [], ◌∷◌, refl, ap, sym, ℤ, pos, negsuc, ◌≢◌, ◌∙◌, subst, ◌⊎◌, inl, inr, ⊎_elim, arith}
-use Rattle.std.specs.Prelude.{Contains, slice_get, Some, None, Option, fold, cond}
+use Rattle.std.proofs.Common.{◌≡◌, ℕ, true, List, [], ◌∷◌, refl, ap, sym, ◌∙◌, subst, inl, inr, ⊎_elim}
+use Rattle.std.specs.Prelude.{Some, None, fold, cond}
 use Rattle.std.proofs.lemmas.Option.{none-some, same_Some}
-use Rattle.std.proofs.lemmas.Int.{ints}
-use Rattle.ato_rational.specs.Rational.{ℚ, ◌≈ℚ◌, ◌≤ℚ◌, ◌<ℚ◌, ◌+ℚ◌, ◌*ℚ◌, ◌/ℚ◌, neg_ℚ, min_ℚ, max_ℚ, abs_ℚ, power_ℚ, IsNotZero, zero_ℚ}
+use Rattle.ato_rational.specs.Rational.{ℚ, ◌≤ℚ◌, ◌+ℚ◌, ◌*ℚ◌, ◌/ℚ◌, neg_ℚ, min_ℚ, max_ℚ, abs_ℚ, power_ℚ, IsNotZero}
 use Rattle.ato_rational.specs.Ranges.{IsWithin, IsApartFromZero}
-use Rattle.ato_rational.proofs.Order.{≤ℚ_refl, ≤ℚ_trans, ≤ℚ_antisymm, ≤ℚ-<ℚ_trans, <ℚ-≤ℚ_trans, ≈ℚ-≤ℚ, ≈ℚ_sym, ≈ℚ_trans, clash_ℚ, IsWithin-same}
-use Rattle.ato_rational.proofs.Quotients.{not_zero}
+use Rattle.ato_rational.proofs.Order.{≤ℚ_refl, ≤ℚ_trans, ≤ℚ_antisymm, ≤ℚ-<ℚ_trans, <ℚ-≤ℚ_trans, ≈ℚ-≤ℚ, ≈ℚ_sym, clash_ℚ, IsWithin-same}
 use Rattle.ato_frac.specs.declared.fraction.Frac.{Frac}
 use Rattle.ato_frac.specs.Fractions.{value_of}
 use Rattle.ato_interval.specs.Ends.{Ends, Holds}
@@ -18,14 +16,11 @@ use Rattle.ato_expr.specs.Tables.{Entry}
 use Rattle.ato_expr.specs.declared.ops.Relation.{Relation}
 use Rattle.ato_expr.specs.declared.ops.Relation.TheVariants as relations
 use Rattle.ato_expr.specs.Chains.{Chains}
-use Rattle.ato_expr.specs.Labels.{HasLabel}
-use Rattle.ato_expr.specs.Values.{op_value, is_zero, GivesValue, HasValue, LiesIn, HoldsAt, within, less, at_most, equal, there, roots_of}
+use Rattle.ato_expr.specs.Values.{op_value, is_zero, GivesValue, HasValue, HoldsAt, within, less, at_most, equal, there}
 use Rattle.ato_expr.proofs.LabelLaws.{AreRelated, carried, refusal_carried}
 use Rattle.ato_expr.proofs.ValueLaws.{value_once, valued_below, not_zero_told, zero_told}
-use Rattle.ato_eval.specs.declared.judgement.Judgement.{Judgement}
 use Rattle.ato_eval.specs.declared.judgement.Judgement.TheVariants as judgements
-use Rattle.ato_eval.specs.declared.reason.Reason.{Reason}
-use Rattle.ato_eval.specs.declared.reason.Reason.TheVariants.{TooWide, ByZero, ZeroInside}
+use Rattle.ato_eval.specs.declared.reason.Reason.TheVariants.{ByZero}
 use Rattle.ato_eval.specs.Intervals.{IsSpan, IsSum, GivesInterval, RefusesInterval}
 use Rattle.ato_eval.specs.Judgements.{IsInside, HasInterval, Stops, IsSure, IsDenied, Judges}
 
@@ -44,7 +39,7 @@ chain_held f Step holds a (b ∷ bs) r x [] c w rel = absurd rel
 chain_held f Step holds a (b ∷ bs) r x (y ∷ ys) c w rel =
     chain_held f Step holds c.0 bs r (f x y) ys c.2 (holds a b c.0 c.1 x y w rel.0) rel.1
 
-divisor_not_zero : {c d y : ℚ} → IsApartFromZero c d → IsWithin c d y → IsNotZero y
+pub divisor_not_zero : {c d y : ℚ} → IsApartFromZero c d → IsWithin c d y → IsNotZero y
 divisor_not_zero (inl p) w = inl (<ℚ-≤ℚ_trans p w.above)
 divisor_not_zero (inr p) w = inr (≤ℚ-<ℚ_trans w.below p)
 

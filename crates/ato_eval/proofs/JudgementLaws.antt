@@ -1,15 +1,15 @@
 -- A node has at most one interval, an operation is refused for one reason at most, and a relation over ranges has one judgement
 -- at most.
-use Rattle.std.proofs.Common.{◌≡◌, ◌≢◌, ℕ, zero, suc, ◌<◌, Bool, true, false, List, [], ◌∷◌, refl, ap, ap₂, sym, ◌∙◌, subst, ◌⊎◌, inl, inr, ⊎_elim}
-use Rattle.std.specs.Prelude.{Contains, slice_get, Some}
+use Rattle.std.proofs.Common.{◌≡◌, ℕ, Bool, true, false, List, [], ◌∷◌, refl, ap, ap₂, sym, ◌∙◌, subst, inl, inr, ⊎_elim}
+use Rattle.std.specs.Prelude.{Contains}
 use Rattle.std.proofs.lemmas.Option.{same_Some}
 use Rattle.std.proofs.lemmas.Bool.{true≢false}
-use Rattle.ato_base.proofs.ClassLaws.{cases, first, later, nowhere}
-use Rattle.ato_rational.specs.Rational.{ℚ, ◌≈ℚ◌, ◌≤ℚ◌, ◌<ℚ◌, ◌+ℚ◌, ◌*ℚ◌, ◌/ℚ◌, neg_ℚ, min_ℚ, max_ℚ, abs_ℚ, power_ℚ, zero_ℚ}
-use Rattle.ato_rational.specs.Ranges.{IsWithin, AtEnds, IsApartFromZero}
+use Rattle.ato_base.proofs.ClassLaws.{cases, nowhere}
+use Rattle.ato_rational.specs.Rational.{ℚ, ◌≈ℚ◌, ◌+ℚ◌, ◌*ℚ◌, ◌/ℚ◌, neg_ℚ, min_ℚ, max_ℚ, abs_ℚ, power_ℚ, zero_ℚ}
+use Rattle.ato_rational.specs.Ranges.{IsWithin, IsApartFromZero}
 use Rattle.ato_rational.proofs.Order.{≤ℚ_trans, ≤ℚ_antisymm, ≈ℚ-≤ℚ, ≈ℚ_sym, ≈ℚ_trans, clash_ℚ}
 use Rattle.ato_frac.specs.declared.fraction.Frac.{Frac}
-use Rattle.ato_frac.specs.Fractions.{value_of, CanMultiply, CanDivide}
+use Rattle.ato_frac.specs.Fractions.{value_of, CanMultiply}
 use Rattle.ato_frac.specs.OneNumber.{fraction_same}
 use Rattle.ato_interval.specs.Ends.{Ends, Holds}
 use Rattle.ato_frac.specs.Powers.{CanRaise, CannotRaise}
@@ -21,7 +21,6 @@ use Rattle.ato_expr.specs.Tables.{Entry}
 use Rattle.ato_expr.specs.declared.ops.Relation.{Relation}
 use Rattle.ato_expr.specs.declared.ops.Relation.TheVariants as relations
 use Rattle.ato_expr.specs.Chains.{Chains, ChainStops}
-use Rattle.ato_expr.specs.Labels.{HasLabel, StopsFor}
 use Rattle.ato_expr.specs.Values.{roots_of}
 use Rattle.ato_expr.proofs.LabelLaws.{stopped_unlabelled, stop_once}
 use Rattle.ato_eval.specs.declared.judgement.Judgement.{Judgement}

@@ -1,6 +1,6 @@
 -- What is kept for nodes is there once, and chains over it go on interval by interval.
-use Rattle.std.proofs.Common.{◌≡◌, ℕ, zero, suc, Bool, true, false, ◌<◌, ◌≤◌, List, [], ◌∷◌, length, refl, ap, ap₂, sym, ◌∙◌, subst, ◌⊎◌, inl, inr, ⊎_elim, arith}
-use Rattle.std.specs.Prelude.{slice_get, Some, None, Option, Result, Ok, Err, MatchResult, cond}
+use Rattle.std.proofs.Common.{◌≡◌, ℕ, zero, suc, Bool, ◌<◌, List, [], ◌∷◌, length, refl, ap, ap₂, sym, ◌∙◌, subst, inl, inr, arith}
+use Rattle.std.specs.Prelude.{slice_get, Some, None, Result, Ok, Err, MatchResult, cond}
 use Rattle.std.proofs.lemmas.Option.{same_Some, none-some, slice_get_within}
 use Rattle.ato_rational.specs.Rational.{◌≤ℚ◌}
 use Rattle.ato_frac.specs.declared.fraction.Frac.{Frac}

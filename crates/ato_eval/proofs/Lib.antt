@@ -1,6 +1,11 @@
+pub mod DecidedLaws
 pub mod EnclosureLaws
+pub mod EndLaws
 pub mod JudgementLaws
 pub mod KeptLaws
+pub mod LiesLaws
 pub mod PassLaws
+pub mod PlaceLaws
+pub mod PlainLaws
 pub mod RightLaws
 pub mod SideLaws

@@ -1,5 +1,5 @@
 -- A pass over the marked nodes, from the first to the last.
-use Rattle.std.proofs.Common.{◌≡◌, ◌⊎◌, inl, inr, ⊎_elim, ℕ, zero, suc, ◌+◌, ◌<◌, ◌≤◌, Bool, true, false, List, [], ◌∷◌, length, get_or, set, refl, ap, ap₂, sym, ◌∙◌, subst, arith}
+use Rattle.std.proofs.Common.{◌≡◌, ◌⊎◌, inl, inr, ⊎_elim, ℕ, ◌+◌, ◌<◌, ◌≤◌, Bool, true, false, List, [], ◌∷◌, length, get_or, set, ap, ap₂, sym, ◌∙◌, subst, arith}
 use Rattle.std.specs.Prelude.{Contains, ◌↔◌, slice_get, Some, Result, Ok, Err, MatchResult}
 use Rattle.ato_base.proofs.ClassLaws.{first, later}
 use Rattle.ato_frac.specs.declared.fraction.Frac.{Frac}
@@ -7,7 +7,7 @@ use Rattle.ato_frac.specs.Fractions.{value_of}
 use Rattle.ato_interval.specs.Ends.{Ends, IsProper}
 use Rattle.ato_expr.specs.declared.ops.Op.{Op}
 use Rattle.ato_expr.specs.declared.scratch.Stretch.{Stretch}
-use Rattle.ato_expr.specs.Labels.{HasLabel, HaveLabels, labelled, no_label, a_label, IsRefused, StopsFor}
+use Rattle.ato_expr.specs.Labels.{HaveLabels, labelled, no_label, a_label, IsRefused, StopsFor}
 use Rattle.ato_expr.specs.Scratches.{IsMarked}
 use Rattle.ato_expr.specs.Tables.{Entry, IsTable, IsBelow, child}
 use Rattle.std.proofs.lemmas.Bool.{cases_order}

@@ -1,5 +1,5 @@
 -- Judgements from the intervals of the sides, or from the reason for which a node has none.
-use Rattle.std.proofs.Common.{◌≡◌, ◌⊎◌, inl, inr, ⊎_elim, ℕ, List, [], ◌∷◌, refl, sym, subst}
+use Rattle.std.proofs.Common.{◌≡◌, inl, inr, ℕ, List, [], ◌∷◌, sym, subst}
 use Rattle.std.specs.Prelude.{Contains}
 use Rattle.ato_base.proofs.ClassLaws.{cases, first, later, nowhere}
 use Rattle.ato_rational.specs.Rational.{ℚ, ◌≈ℚ◌, ◌≤ℚ◌, ◌<ℚ◌}
@@ -12,7 +12,7 @@ use Rattle.ato_interval.specs.Targets.{IsInOne}
 use Rattle.ato_expr.specs.declared.ops.Relation.{Relation}
 use Rattle.ato_expr.specs.declared.ops.Relation.TheVariants as relations
 use Rattle.ato_expr.specs.Tables.{Entry}
-use Rattle.ato_expr.specs.Values.{LiesIn, roots_of}
+use Rattle.ato_expr.specs.Values.{LiesIn}
 use Rattle.ato_expr.proofs.LabelLaws.{label_once}
 use Rattle.ato_expr.proofs.ValueLaws.{one_root, two_roots}
 use Rattle.ato_eval.specs.declared.judgement.Judgement.{Judgement}
@@ -20,7 +20,7 @@ use Rattle.ato_eval.specs.declared.judgement.Judgement.TheVariants as judgements
 use Rattle.ato_eval.specs.declared.reason.Reason.{Reason}
 use Rattle.ato_eval.specs.declared.reason.Reason.TheVariants.{TooWide, ByZero, ZeroInside}
 use Rattle.ato_eval.specs.Intervals.{GivesInterval}
-use Rattle.ato_eval.specs.Judgements.{HasInterval, Stops, OfSide, OfSides, IsSure, IsDenied, AllHave, Judges, judgement_of}
+use Rattle.ato_eval.specs.Judgements.{HasInterval, Stops, OfSide, OfSides, Judges, judgement_of}
 use Rattle.ato_eval.specs.Sides.{AreApart, IsSamePoint, Tells}
 use Rattle.ato_eval.proofs.JudgementLaws.{gives_once}
 

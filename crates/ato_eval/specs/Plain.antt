@@ -4,7 +4,7 @@ use Rattle.ato_rational.specs.Rational.{ℚ, ◌≤ℚ◌, zero_ℚ}
 use Rattle.ato_rational.specs.Ranges.{IsApartFromZero}
 use Rattle.ato_frac.specs.declared.fraction.Frac.{Frac}
 use Rattle.ato_frac.specs.Fractions.{value_of}
-use Rattle.ato_interval.specs.Ends.{Ends}
+use Rattle.ato_interval.specs.Ends.{Ends, IsProper}
 use Rattle.ato_expr.specs.declared.ops.Op.{Op}
 use Rattle.ato_expr.specs.declared.ops.Op.TheVariants as ops
 use Rattle.ato_expr.specs.Tables.{Entry}
@@ -56,6 +56,10 @@ pub record IsPlain (table : List Entry) (ranges : List (Ends Frac)) (relation : 
   pub target : IsPlainTarget relation
   pub steps : (n : ℕ) (e : Entry) (cs : List (Ends Frac)) → IsBelow table (roots_of relation) n → slice_get table n ≡ Some e
       → HaveLabels (GivesInterval ranges) table e.children cs → IsPlainStep e.op cs
+
+-- each range goes from its low end up to its high end
+abbrev pub AreRanges : List (Ends Frac) → Type 0
+AreRanges ranges = (v : ℕ) (range : Ends Frac) → slice_get ranges v ≡ Some range → IsProper value_of range
 
 -- the end of a range that is named
 abbrev pub end_of : Option (Ends Frac) → Bool → ℚ

@@ -1,5 +1,5 @@
 -- What the intervals of a relation's sides tell.
-use Rattle.ato_rational.specs.Rational.{ℚ, ◌≈ℚ◌, ◌≤ℚ◌, ◌<ℚ◌}
+use Rattle.ato_rational.specs.Rational.{ℚ, ◌≈ℚ◌}
 use Rattle.ato_frac.specs.declared.fraction.Frac.{Frac}
 use Rattle.ato_frac.specs.Fractions.{value_of}
 use Rattle.ato_interval.specs.Ends.{Ends, Holds}

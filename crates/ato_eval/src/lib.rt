@@ -12,6 +12,7 @@ mod enclosing;
 mod judgement;
 mod judging;
 mod kept;
+mod laws;
 mod operations;
 mod pass;
 mod reason;
@@ -19,3 +20,4 @@ mod sides;
 
 pub use enclosing::enclose;
 pub use judgement::Judgement;
+pub use laws::{corners_decide, points_are_decided};
