@@ -7,5 +7,6 @@ pub mod LiesLaws
 pub mod PassLaws
 pub mod PlaceLaws
 pub mod PlainLaws
+pub mod ReachLaws
 pub mod RightLaws
 pub mod SideLaws

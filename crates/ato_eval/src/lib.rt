@@ -13,11 +13,17 @@ mod judgement;
 mod judging;
 mod kept;
 mod laws;
+mod leaning;
 mod operations;
 mod pass;
+mod reached;
+mod reaching;
 mod reason;
 mod sides;
+mod wanted;
 
 pub use enclosing::enclose;
 pub use judgement::Judgement;
 pub use laws::{corners_decide, points_are_decided};
+pub use reached::Reached;
+pub use reaching::reach;

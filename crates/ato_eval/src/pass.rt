@@ -38,7 +38,7 @@ fn interval_of(
 
 /// Works out the marked nodes of a stretch, which are those below some roots, from the first to the last;
 /// their intervals are kept then. The first of them that has none ends it.
-fn evaluate(
+pub(crate) fn evaluate(
     table: &ExprTable,
     roots: &[u32],
     ranges: &[Interval<Frac>],
@@ -54,6 +54,7 @@ fn evaluate(
         (λ _. (k : ℕ) → IsBelow table.now roots.now k
         → IsKept table.now (narrowed ranges.now high.now) scratch.new.ends k)
         (StopsFor (GivesInterval (narrowed ranges.now high.now)) RefusesInterval table.now roots.now) }
+    ensures marks { scratch.new.marks ≡ scratch.old.marks }
     ensures room { HasRoom scratch.new (length table.now) }
 {
     // the count tells that children stand before their parents
