@@ -7,6 +7,7 @@ use Rattle.ato_files.specs.declared.program.SourceFile.{SourceFile}
 use Rattle.ato_files.specs.declared.program.BlockInfo.{BlockInfo}
 use Rattle.ato_files.specs.Blocks.{BlockAt, blocks_of, block_of, own}
 use Rattle.ato_files.specs.BlockPlaces.{block_at}
+use Rattle.std.specs.Option.{option_map}
 use Rattle.ato_files.specs.Lineages.{IsLineage, oldest, child}
 use Rattle.ato_files.specs.Finding.{has_name, is_named}
 use Rattle.ato_files.specs.Programs.{AreBlocks}
@@ -59,3 +60,12 @@ module _ (files : List SourceFile) (blocks : List BlockInfo) (are : AreBlocks fi
   unfolding is_own
   own_none h = position_none is_own (blocks_of files)
       (λ k b at. kept (is_own b ≡ false) k b at (λ j g. sym (same_test k j b g at) ∙ h k j (slice_get_within blocks k j g) g))
+
+-- at the place that is kept of a block stands the block
+pub kept_block : (files : List SourceFile) (blocks : List BlockInfo) (number : ℕ) (info : BlockInfo) → AreBlocks files blocks → slice_get blocks number ≡ Some info
+    → block_at files (record { file = info.file.0; item = info.item }) ≡ option_map (λ (b : BlockAt). b.block) (block_of files number)
+kept_block files blocks number info are e = let i = are.each number info e in
+    ap (λ (x : ℕ). block_at files (record { file = x; item = info.item })) i.file
+    ∙ ap (λ (x : ℕ). block_at files (record { file = i.at.file; item = x })) i.item
+    ∙ stands_there files number i.at i.found
+    ∙ sym (ap (option_map (λ (b : BlockAt). b.block)) i.found)

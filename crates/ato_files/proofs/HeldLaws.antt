@@ -17,7 +17,7 @@ use Rattle.ato_files.proofs.ReachLaws.{files_first}
 
 -- ---- known names are different
 
-abbrev Distinct : List (List ℕ) → Type 0
+abbrev pub Distinct : List (List ℕ) → Type 0
 Distinct [] = Unit {0}
 Distinct (x ∷ xs) = (Among x xs → ⊥) × Distinct xs
 
@@ -50,14 +50,14 @@ with_one names m d = by (list_any (bytes_eq m) names) refl
     by true e = d
     by false e = one_more names m d (λ a. let no : true ≡ false = sym (among_any a) ∙ e in absurd (cc))
 
-with_all : (names ms : List (List ℕ)) → Distinct names → Distinct (fold with_name names ms)
+pub with_all : (names ms : List (List ℕ)) → Distinct names → Distinct (fold with_name names ms)
 with_all names [] d = d
 with_all names (m ∷ ms) d = with_all (with_name names m) ms (with_one names m d)
 
 known_distinct : (entry : List ℕ) (files : List SourceFile) → Distinct (known entry files)
 known_distinct entry files = with_all (entry ∷ []) (flat_map mentioned files) ((λ a. elim a [ ]), tt)
 
-at_place : {X : Type 0} (xs : List X) (i : ℕ) (x : X) → slice_get xs i ≡ Some x → Among x xs
+pub at_place : {X : Type 0} (xs : List X) (i : ℕ) (x : X) → slice_get xs i ≡ Some x → Among x xs
 at_place [] i x e = absurd (none-some x e)
 at_place (y ∷ xs) zero x e = let same : y ≡ x = cc in subst (λ z. Among z (y ∷ xs)) same here
 at_place (y ∷ xs) (suc i) x e = there (at_place xs i x e)

@@ -33,6 +33,7 @@ pub mod MeantLemmas
 pub mod MentionLaws
 pub mod NameMapLemmas
 pub mod NameRows
+pub mod NameTableLaws
 pub mod NearLaws
 pub mod NotedLaws
 pub mod NumberedLemmas

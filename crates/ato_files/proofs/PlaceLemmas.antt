@@ -33,11 +33,11 @@ place_at files number = slice_get-map place_of (blocks_of files) number
 
 -- ---- at the place of a block stands the block
 
-all_append : {A : Type 0} (P : A → Type 0) (xs ys : List A) → AllByRecursion P xs → AllByRecursion P ys → AllByRecursion P (xs ++ ys)
+pub all_append : {A : Type 0} (P : A → Type 0) (xs ys : List A) → AllByRecursion P xs → AllByRecursion P ys → AllByRecursion P (xs ++ ys)
 all_append P [] ys a b = b
 all_append P (x ∷ xs) ys a b = (a.0, all_append P xs ys a.1 b)
 
-all_flat : {X A : Type 0} (P : A → Type 0) (Q : X → Type 0) (f : X → List A) → ((x : X) → Q x → AllByRecursion P (f x)) → (xs : List X) → AllByRecursion Q xs → AllByRecursion P (flat_map f xs)
+pub all_flat : {X A : Type 0} (P : A → Type 0) (Q : X → Type 0) (f : X → List A) → ((x : X) → Q x → AllByRecursion P (f x)) → (xs : List X) → AllByRecursion Q xs → AllByRecursion P (flat_map f xs)
 all_flat P Q f step [] h = tt
 all_flat P Q f step (x ∷ xs) h = all_append P (f x) (flat_map f xs) (step x h.0) (all_flat P Q f step xs h.1)
 
@@ -54,7 +54,7 @@ numbered_each all n (x ∷ xs) same = (
   numbered_each all (suc n) xs (λ i. let e : n + suc i ≡ suc n + i = omega arith in subst (λ m. slice_get all m ≡ slice_get xs i) e (same (suc i))),
 )
 
-own_numbers : {X : Type 0} (xs : List X) → AllByRecursion (λ (p : ℕ × X). slice_get xs p.0 ≡ Some p.1) (numbered 0 xs)
+pub own_numbers : {X : Type 0} (xs : List X) → AllByRecursion (λ (p : ℕ × X). slice_get xs p.0 ≡ Some p.1) (numbered 0 xs)
 own_numbers xs = numbered_each xs 0 xs (λ i. let e : 0 + i ≡ i = omega arith in ap (slice_get xs) e)
 
 module _ (files : List SourceFile) where

@@ -1,4 +1,4 @@
--- What is kept of the meanings of names. Only private functions have clauses in these words.
+-- What is kept of the meanings of names. Of these words only `AreMeanings` stands in clauses of public functions.
 use Rattle.std.specs.Prelude.{◌≡◌, ◌||◌, Bool, is_some, ℕ, List, map, Option, Some, None, slice_get}
 use Rattle.std.specs.List.{flat_map}
 use Rattle.std.specs.Option.{option_or, option_and_then}

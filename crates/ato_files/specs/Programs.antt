@@ -78,6 +78,10 @@ pub record AreBlocks (files : List SourceFile) (blocks : List BlockInfo) : Type 
   pub count : length blocks ≡ length (blocks_of files)
   pub each : (number : ℕ) (info : BlockInfo) → slice_get blocks number ≡ Some info → IsBlockInfo files number info
 
+-- No text stands twice in a table of names.
+abbrev pub NamesDiffer : List (List ℕ) → Type 0
+NamesDiffer names = (i j : ℕ) (text : List ℕ) → slice_get names i ≡ Some text → slice_get names j ≡ Some text → i ≡ j
+
 -- The program of an entry: it is read to its end without a fault.
 pub record IsProgram (held : Held) (entry : List ℕ) (program : Program) : Type 0 where
   pub loaded : Loaded

@@ -1,6 +1,6 @@
-ghost use Rattle.std.specs.Prelude.{◌≡◌, find, Some};
-ghost use Rattle.std.specs.Option.{option_and_then};
-ghost use Rattle.ato_files.specs.Blocks.{own, imports_of, import_file, imported, meaning};
+ghost use Rattle.std.specs.Prelude.{◌≡◌, find, slice_get, Some};
+ghost use Rattle.std.specs.Option.{option_and_then, option_map};
+ghost use Rattle.ato_files.specs.Blocks.{block_of, own, imports_of, import_file, imported, meaning};
 ghost use Rattle.ato_files.specs.FileMaps.{number_behind};
 ghost use Rattle.ato_files.specs.Finding.{is_of, is_named};
 ghost use Rattle.ato_files.specs.Programs.{AreBlocks, IsBlockInfo, found_block};
@@ -10,7 +10,7 @@ use crate::block_places::{BlockPlace, block_at};
 use crate::first_import::first_import;
 use crate::pieces::text_at;
 use crate::program::{BlockInfo, Program};
-use ato_ast::Quoted;
+use ato_ast::{Block, Quoted};
 use ato_base::{FileId, Name};
 
 /// Whether what is kept is of a block of this file with this name.
@@ -89,6 +89,13 @@ fn meaning(files: &[SourceFile], blocks: &[BlockInfo], file: usize, name: Name) 
     }
 }
 
+/// What is kept of the block of a number.
+fn info_at(blocks: &[BlockInfo], number: usize) -> Option<&BlockInfo>
+    ensures { option_map (λ info. info.now) result ≡ slice_get blocks.now number }
+{
+    blocks.get(number)
+}
+
 impl Program {
     /// The number of the block that a name means in a file, its own or the imported one. It takes no memory.
     pub fn find_block(&self, file: FileId, name: &str) -> Option<u32>
@@ -101,5 +108,16 @@ impl Program {
             file.0 as usize,
             name,
         )
+    }
+    /// The block of a number, as it is written. It takes no memory.
+    pub fn declared_block(&self, number: u32) -> Option<&Block>
+        ensures { AreBlocks self.now.files self.now.blocks → option_map (λ block. block.now) result ≡ option_map (λ b. b.block) (block_of self.now.files number) }
+    {
+        let info = info_at(self.blocks.as_slice(), number as usize)?;
+        let place = BlockPlace {
+            file: info.file.0,
+            item: info.item,
+        };
+        block_at(self.files.as_slice(), place)
     }
 }

@@ -14,7 +14,7 @@ ghost use Rattle.ato_files.specs.Lineages.{IsLineage, LineagesEnd, lineage};
 ghost use Rattle.ato_files.specs.Lists.{Among};
 ghost use Rattle.ato_files.specs.Loading.{Held, IsStart, Loaded, all_files};
 ghost use Rattle.ato_files.specs.NameFaults.{name_fault};
-ghost use Rattle.ato_files.specs.Programs.{AreBlocks, Failure, IsProgram, IsReached, Named, Stands};
+ghost use Rattle.ato_files.specs.Programs.{AreBlocks, Failure, IsProgram, IsReached, Named, NamesDiffer, Stands};
 
 /// At most one fault stands, and the files that are read with it are the same.
 pub fn one_fault()
@@ -64,6 +64,11 @@ pub fn lineages_end()
 pub fn sound_names_have_blocks()
     ensures lineages { (files : List SourceFile) → name_fault files ≡ None → (number : ℕ) → IsLineage files number (lineage files number) }
     ensures blocks { (files : List SourceFile) → name_fault files ≡ None → (blocks : List BlockInfo) × AreBlocks files blocks }
+{}
+
+/// No text stands twice in the table of a program's names.
+pub fn names_differ()
+    ensures { (held : Held) (entry : List ℕ) (p : Program) → IsProgram held entry p → NamesDiffer p.names }
 {}
 
 /// The least fault is one of the faults, and none comes before it.

@@ -51,8 +51,10 @@ mod tables;
 mod walking;
 
 pub use laws::{
-    least_is_first, library_has_tokens, library_has_tree, lineages_end, loads_all, nearer_first,
-    none_with_program, one_fault, one_program, sound_names_have_blocks,
+    least_is_first, library_has_tokens, library_has_tree, lineages_end, loads_all, names_differ,
+    nearer_first, none_with_program, one_fault, one_program, sound_names_have_blocks,
 };
+pub use meanings::Meanings;
+pub use pieces::text_at;
 pub use program::{BlockInfo, LoadFault, Program, Source, SourceFile};
 pub use projects::load;

@@ -1,20 +1,22 @@
 ghost use Rattle.std.specs.Prelude.{◌≡◌, ◌++◌, ◌<◌, ◌^◌, ℕ, List, Option, length, IfOk, OnOk};
+ghost use Rattle.ato_files.specs.declared.program.SourceFile.{SourceFile};
+ghost use Rattle.ato_files.specs.Blocks as blocks;
 ghost use Rattle.ato_files.specs.Blocks.{blocks_of, imports_of};
 ghost use Rattle.ato_files.specs.BlockPlaces.{places_of};
 ghost use Rattle.ato_files.specs.Meant.{AreOwn, AreMeanings, file_pairs, targets_in, found, known, taken};
 ghost use Rattle.ato_files.specs.NameMaps.{AreFirst};
 
-use crate::SourceFile;
-use crate::block_places::BlockPlace;
+use crate::block_places::{BlockPlace, block_places};
 use crate::imports::imports_of;
 use crate::name_map::NameMap;
 use crate::own_names::OwnNames;
-use ato_base::{List, Name, NoMemory};
+use crate::{Program, SourceFile};
+use ato_base::{FileId, List, Name, NoMemory};
 use std::alloc::Global;
 
-/// What each name means in each file.
+/// What each name means in each file. It is made by [`Program::meanings`].
 #[derive(Drop)]
-pub(crate) struct Meanings {
+pub struct Meanings {
     /// The own blocks of the files.
     own: NameMap,
     /// What imported names take.
@@ -69,6 +71,13 @@ impl Meanings {
         })
     }
 
+    /// The number of the block that a name means in a file, its own or the imported one.
+    pub fn meaning_in(&self, file: FileId, name: Name) -> Option<u32>
+        ensures { (files : List SourceFile) → AreMeanings files self.now → result ≡ blocks.meaning files file.0 name.0 }
+    {
+        self.meaning(file.0 as usize, name)
+    }
+
     /// The block that a name means in a file, its own or the imported one.
     pub(crate) fn meaning(&self, file: usize, name: Name) -> Option<u32>
         ensures { result ≡ found self.now file name.0 }
@@ -97,5 +106,15 @@ impl Meanings {
             Some(block) => *block,
             None => None,
         }
+    }
+}
+
+impl Program {
+    /// What each name means in each file. A program of more blocks than an u32 has numbers finds no memory.
+    pub fn meanings(&self, alloc: Global) -> Result<Meanings, NoMemory>
+        ensures { IfOk result (λ meanings. AreMeanings self.now.files meanings) }
+    {
+        let places = block_places(alloc, self.files.as_slice())?;
+        Meanings::of(alloc, self.files.as_slice(), places.as_slice())
     }
 }
