@@ -1,0 +1,16 @@
+pub mod Depth
+pub mod Elaborated
+pub mod Exprs
+pub mod Kept
+pub mod Kinds
+pub mod Laws
+pub mod Members
+pub mod Order
+pub mod PathFaults
+pub mod Paths
+pub mod Seen
+pub mod Targets
+pub mod TreeFaults
+pub mod Trees
+pub mod Types
+pub mod Walk
