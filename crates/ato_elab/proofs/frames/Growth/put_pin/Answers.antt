@@ -1,0 +1,18 @@
+use Rattle.std.proofs.Common.{◌+◌, ◌∷◌, refl}
+use Rattle.ato_instance_tree.specs.Members.{pin}
+use Rattle.ato_elab.specs.Building.{left, made, next_of, path_of}
+use Rattle.ato_elab.proofs.FrameLaws.{one_leaf, spot_here}
+use Rattle.ato_elab.proofs.frames.Growth.put_pin.Goals as goal
+
+pub returns : goal.returns
+returns c = λ entry fs here was.
+    let p = c.args.given.now.program.now in
+    let f = c.args.frame.now in
+    let g = c.args.self.now in
+    let at = spot_here p.files p.names entry c.args.given.now.most was.done f fs g.built g.marks g.counts was.is in
+    record {
+      given_is = was.given_is;
+      done = _;
+      is = one_leaf p.files p.names entry c.args.given.now.most was.done f fs g.built g.marks g.counts was.is (pin c.args.label.now) (left (next_of f)) (f.next + 1) c.put_pin.new.self here refl refl
+          (c.in_ok-put_pin.ensures p.files p.names entry was.done (made was.done) (path_of (f ∷ fs)) was.is.so_far at);
+    }
