@@ -11,7 +11,6 @@
 mod cells;
 mod header;
 mod layout;
-mod lists;
 mod memo;
 mod parts;
 mod prices;

@@ -14,7 +14,6 @@ ghost use Rattle.ato_catalog.specs.WellMade.{IsWellMade};
 use crate::cells::cell_at;
 use crate::header::{Column, Layout, find_header_fault};
 use crate::layout::read_layout;
-use crate::lists::with_room;
 use crate::memo::Memo;
 use crate::parts::note_part;
 use crate::records::read_records;
@@ -103,7 +102,7 @@ fn read_rows(
 {
     let mut memo = Memo::new(alloc)?;
     let mut parts = HashSet::new(alloc);
-    let mut rows = with_room(alloc, records.len())?;
+    let mut rows = List::with_capacity(alloc, records.len())?;
     for (before, row) in records.iter().enumerate() {
         rows.push(read_next(alloc, layout, most, before, &mut memo, &mut parts, row)?)?;
     }

@@ -9,7 +9,6 @@ ghost use Rattle.ato_catalog.specs.Rows.{AreValues, IsRow, is_whole};
 
 use crate::cells::{cell_at, copy_at, is_text};
 use crate::header::{Layout, Role};
-use crate::lists::with_room;
 use crate::memo::Memo;
 use crate::prices::read_price;
 use crate::values::{Cell, read_cell};
@@ -66,7 +65,7 @@ pub(crate) fn read_values<'a>(
     requires text { list_all is_utf8 (fields_of row.now) ≡ true }
     ensures { IfOk result (ReadsCells roles.now (fields_of row.now)) }
 {
-    let mut values = with_room(alloc, attributes)?;
+    let mut values = List::with_capacity(alloc, attributes)?;
     for (place, role) in roles.iter().enumerate() {
         match read_cell(memo, *role, cell_at(row, place)) {
             Cell::Bad => return Ok(RowValues::Bad(place as u32 + 1)),

@@ -55,7 +55,7 @@ pub(crate) fn endings(alloc: Global, parents: &[Option<u32>]) -> Result<List<boo
     ensures { IfOk result (λ ends. AreEnds parents.now (length parents.now) ends) }
 {
     let mut walks = vec![in alloc; parents.len(); parents.len()]?;
-    let mut ends = List::new(alloc);
+    let mut ends = List::with_capacity(alloc, parents.len())?;
     for start in 0..parents.len() {
         ends.push(next_ends(parents, start, &mut walks, ends.as_slice()))?;
     }

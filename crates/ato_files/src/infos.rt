@@ -33,7 +33,7 @@ pub(crate) fn block_infos(
 {
     let mut rest = lineages.into_vec();
     rest.reverse();
-    let mut blocks = List::new(alloc);
+    let mut blocks = List::with_capacity(alloc, places.len())?;
     for place in places {
         if let Some(lineage) = rest.pop() {
             blocks.push(block_info(alloc, *place, lineage))?;

@@ -65,7 +65,7 @@ pub(crate) fn lineages(
     ensures lineages { IfOk result (λ lineages. (files : List SourceFile) → AreParents files parents.now → AreLineages files (length (blocks_of files)) lineages) }
 {
     let ends = endings(alloc, parents)?;
-    let mut lineages = List::new(alloc);
+    let mut lineages = List::with_capacity(alloc, parents.len())?;
     for (number, end) in ends.as_slice().iter().enumerate() {
         lineages.push(lineage_if(alloc, parents, number as u32, *end)?)?;
     }

@@ -36,7 +36,7 @@ fn all_members(
     requires { places.now ≡ places_of files.now }
     ensures { IfOk result (λ members. members ≡ all_members files.now) }
 {
-    let mut members = List::new(alloc);
+    let mut members = List::with_capacity(alloc, places.len())?;
     for place in places {
         if let Some(block) = block_at(files, *place) {
             members.push(members_of(alloc, block)?)?;

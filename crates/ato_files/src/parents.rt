@@ -28,7 +28,7 @@ pub(crate) fn parents(
     requires meanings { AreMeanings files.now meanings.now }
     ensures { IfOk result (λ parents. AreParents files.now parents) }
 {
-    let mut parents = List::new(alloc);
+    let mut parents = List::with_capacity(alloc, places.len())?;
     for place in places {
         parents.push(parent_at(files, meanings, *place))?;
     }

@@ -37,7 +37,7 @@ fn parts<P: LinePart>(
 ) -> Result<(List<P>, bool), Stop>
     ensures { Reads (parts_of P.starts (P.reader depth) first tokens.old) result tokens.new }
 {
-    let mut found = List::new(alloc);
+    let mut found = List::with_capacity(alloc, 1)?;
     found.push(first)?;
     for _turn in 0..tokens.left() {
         if !tokens.eat(Mark::Semicolon) {
