@@ -1,1 +1,3 @@
 pub mod NetlistLemmas
+pub mod PartsLemmas
+pub mod ReadLemmas

@@ -1,1 +1,4 @@
 pub mod Netlists
+pub mod PartsLists
+pub mod PartsLaws
+pub mod CsvWriters
