@@ -1,0 +1,15 @@
+pub mod Boards
+pub mod ClassLaws
+pub mod Colours
+pub mod DesignatorLaws
+pub mod EndLaws
+pub mod FaultOrder
+pub mod JoinNodes
+pub mod LinkRows
+pub mod LinkedLaws
+pub mod NetLaws
+pub mod NumberLaws
+pub mod PartRows
+pub mod PlacedLaws
+pub mod ShareLaws
+pub mod WholeLaws

@@ -1,0 +1,5 @@
+use Rattle.ato_links.proofs.WholeLaws as laws
+use Rattle.ato_links.proofs.laws.links_are_placed.Goals as goal
+
+pub returns : goal.returns
+returns c = laws.placed

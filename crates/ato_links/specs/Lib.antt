@@ -1,0 +1,9 @@
+pub mod ByNumbers
+pub mod Joins
+pub mod LinkFaults
+pub mod Linked
+pub mod Links
+pub mod Nets
+pub mod NodeJoins
+pub mod Parts
+pub mod Whole

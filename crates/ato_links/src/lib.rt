@@ -1,0 +1,16 @@
+//! The nets of a project: what its connections join, its parts, and its nets.
+//!
+//! `specs/Links` says which places of the tree a written connection joins, `specs/LinkFaults` which fault of paths and links stands first,
+//! `specs/Joins` when two places are joined and which numbers the classes of nodes have, `specs/Parts` which parts there are and
+//! `specs/Nets` which nets.
+#![tactic(auto)]
+
+mod classes;
+mod laws;
+
+pub use classes::Classes;
+pub use laws::{
+    designators_differ, fault_by_tree, first_of_both, joins_are_nodes, least_are_classes,
+    links_are_placed, links_are_whole, nets_by_numbers, nets_share, one_classes, one_link_fault,
+    same_number_is_joined,
+};
