@@ -25,7 +25,7 @@ use Rattle.ato_elab.proofs.PlaceLemmas.{push_kept}
 
 -- ---- open instances stay where nodes are put
 
-frame_kept : (files : List SourceFile) (entry : ℕ) (done : List Spot) (s : Spot) (path around : List ℕ) (f : Frame) → IsFrame files entry done path around f → IsFrame files entry (done ++ s ∷ []) path around f
+pub frame_kept : (files : List SourceFile) (entry : ℕ) (done : List Spot) (s : Spot) (path around : List ℕ) (f : Frame) → IsFrame files entry done path around f → IsFrame files entry (done ++ s ∷ []) path around f
 frame_kept files entry done s path around f was = record {
   spot = push_kept done s (made_at path) f.number was.spot;
   type = was.type;
@@ -38,7 +38,7 @@ pub frames_kept : (files : List SourceFile) (entry : ℕ) (done : List Spot) (s 
 frames_kept files entry done s [] was = tt
 frames_kept files entry done s (f ∷ fs) was = (frame_kept files entry done s (path_of (f ∷ fs)) (types_of fs) f was.0, frames_kept files entry done s fs was.1)
 
-next_kept : (files : List SourceFile) (entry : ℕ) (done : List Spot) (path around : List ℕ) (f : Frame) (n : ℕ) → IsFrame files entry done path around f → IsFrame files entry done path around (at_member f n)
+pub next_kept : (files : List SourceFile) (entry : ℕ) (done : List Spot) (path around : List ℕ) (f : Frame) (n : ℕ) → IsFrame files entry done path around f → IsFrame files entry done path around (at_member f n)
 next_kept files entry done path around f n was = record { spot = was.spot; type = was.type; around = was.around; news = was.news; changes = was.changes }
 
 -- ---- nodes that are no instances
@@ -84,7 +84,7 @@ module _ (files : List SourceFile) (names : List (List ℕ)) (entry : ℕ) (most
         counted = subst (AreCounted files entry most counts) (sym same) was.counted;
       }
 
-or_true : (a b : Bool) → b ≡ true → (a || b) ≡ true
+pub or_true : (a b : Bool) → b ≡ true → (a || b) ≡ true
 or_true true b e = refl
 or_true false b e = e
 

@@ -3,10 +3,15 @@ pub mod Building
 pub mod Built
 pub mod Changes
 pub mod Climbing
+pub mod Entering
+pub mod Counting
 pub mod Faults
 pub mod Finding
+pub mod Firsts
 pub mod Ground
 pub mod Growing
+pub mod Holding
+pub mod Judging
 pub mod Landing
 pub mod Late
 pub mod Listing

@@ -1,8 +1,11 @@
 //! The pins of types, by their labels.
-ghost use Rattle.std.specs.Prelude.{◌≡◌};
+ghost use Rattle.std.specs.Prelude.{◌≡◌, ◌&&◌, ◌||◌, ℕ, List, false, nat_eq, OnOk};
+ghost use Rattle.std.specs.Str.{bytes_eq};
 ghost use Rattle.ato_elab.specs.Pins.{holds, holds_maybe};
 
+use ato_base::NoMemory;
 use indexmap::IndexSet;
+use std::alloc::Global;
 
 /// The labels of the pins of types.
 #[derive(Drop)]
@@ -12,6 +15,24 @@ pub(crate) struct Pins<'a> {
 }
 
 impl<'a> Pins<'a> {
+    /// No pins. It takes no memory.
+    #[tactic(auto, unfolding(crate::specs::Pins::holds))]
+    pub(crate) fn new(alloc: Global) -> Pins<'a>
+        ensures { (type : ℕ) (text : List ℕ) → holds result type text ≡ false }
+    {
+        Pins {
+            labels: IndexSet::new(alloc),
+        }
+    }
+
+    /// Puts in that a type has a pin of this label.
+    pub(crate) fn put(&mut self, block: u32, text: &'a [u8]) -> Result<(), NoMemory>
+        ensures { OnOk result ((type : ℕ) (other : List ℕ) → holds self.new type other ≡ ((nat_eq type block && bytes_eq other text.now) || holds self.old type other)) }
+    {
+        self.labels.insert((block, text))?;
+        Ok(())
+    }
+
     /// Whether a type has a pin of this label.
     #[tactic(auto, unfolding(crate::specs::Pins::holds))]
     fn holds(&self, block: u32, text: &[u8]) -> bool

@@ -33,6 +33,7 @@ pub(crate) struct Frame<'a> {
 }
 
 /// What a tree is built from.
+#[derive(Clone, Copy)]
 pub(crate) struct Given<'a> {
     pub(crate) alloc: Global,
     /// The program.
