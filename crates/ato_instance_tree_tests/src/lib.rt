@@ -10,4 +10,6 @@ mod expressions;
 #[cfg(test)]
 mod projects;
 #[cfg(test)]
+mod trees;
+#[cfg(test)]
 mod types;
