@@ -1,35 +1,35 @@
-mod AimLaws
-mod AroundLaws
-mod AssignedLaws
-mod ClimbLemmas
-mod CountLaws
-mod ElaborateLaws
-mod EnterLaws
-mod EntryBlockLaws
-mod EntryLaws
-mod EntryList
-mod FinishLaws
-mod FirstLemmas
-mod FoundLaws
-mod GroundLaws
-mod HereLaws
-mod JudgedLaws
-mod JudgingLaws
-mod KeepLaws
-mod KeyLaws
-mod LedLemmas
-mod MarkedLemmas
-mod NamedLaws
-mod OnceLaws
-mod ParamLemmas
-mod PickLemmas
-mod PinLemmas
-mod RootLaws
-mod SaidLaws
-mod SlotLaws
-mod StepLemmas
-mod StmtLaws
-mod TellLemmas
+pub mod AimLaws
+pub mod AroundLaws
+pub mod AssignedLaws
+pub mod ClimbLemmas
+pub mod CountLaws
+pub mod ElaborateLaws
+pub mod EnterLaws
+pub mod EntryBlockLaws
+pub mod EntryLaws
+pub mod EntryList
+pub mod FinishLaws
+pub mod FirstLemmas
+pub mod FoundLaws
+pub mod GroundLaws
+pub mod HereLaws
+pub mod JudgedLaws
+pub mod JudgingLaws
+pub mod KeepLaws
+pub mod KeyLaws
+pub mod LedLemmas
+pub mod MarkedLemmas
+pub mod NamedLaws
+pub mod OnceLaws
+pub mod ParamLemmas
+pub mod PickLemmas
+pub mod PinLemmas
+pub mod RootLaws
+pub mod SaidLaws
+pub mod SlotLaws
+pub mod StepLemmas
+pub mod StmtLaws
+pub mod TellLemmas
 pub mod FrameLaws
 pub mod GrowLemmas
 pub mod LeadLaws

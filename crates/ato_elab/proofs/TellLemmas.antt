@@ -4,7 +4,7 @@ use Rattle.std.specs.Prelude.{slice_get, map, reverse, position}
 use Rattle.std.specs.Option.{option_map, option_and_then}
 use Rattle.std.specs.Str.{bytes_eq}
 use Rattle.std.proofs.lemmas.List.{map-append, reverse-append, reverse-reverse}
-use Rattle.std.proofs.lemmas.Option.{none-some, same_Some}
+use Rattle.std.proofs.lemmas.Option.{none-some, same_Some, slice_get-map}
 use Rattle.std.proofs.lemmas.Slice.Eq.{bytes_eq-Decides}
 use Rattle.ato_base.specs.declared.name_table.Name.{Name}
 use Rattle.ato_files.specs.Programs.{NamesDiffer}
@@ -13,7 +13,7 @@ use Rattle.ato_files.specs.declared.program.SourceFile.{SourceFile}
 use Rattle.ato_instance_tree.specs.declared.tree.Node.{Node}
 use Rattle.ato_instance_tree.specs.Order.{nodes, made_at}
 use Rattle.ato_instance_tree.specs.TreeFaults.{shown}
-use Rattle.ato_instance_tree.specs.Trees.{Step, Where, where_at, step_of, below, node_paths, steps}
+use Rattle.ato_instance_tree.specs.Trees.{Step, Where, Said, where_at, step_of, below, node_paths, steps, tree_said, spot_said}
 use Rattle.ato_instance_tree.proofs.TreeLaws.{mapped, nil_step, later, front_at}
 use Rattle.ato_instance_tree.proofs.ParentLaws.{IsMid, mid_of, where_mid}
 use Rattle.ato_elab.specs.declared.built.Built.{Built}
@@ -21,7 +21,7 @@ use Rattle.ato_elab.specs.declared.late_names.Above.{Above}
 use Rattle.ato_elab.specs.Built.{IsBuilt}
 use Rattle.ato_elab.specs.Standing.{IsAt}
 use Rattle.ato_elab.specs.Climbing.{under_name, above_node, above_maybe, above_at, climb_on, climbed}
-use Rattle.ato_elab.proofs.SaidLaws.{spot_node}
+use Rattle.ato_elab.proofs.SaidLaws.{spot_node, said_at}
 
 -- ---- names from the root
 
@@ -116,3 +116,12 @@ pub climbed_path : {files : List SourceFile} {names : List (List ℕ)} {entry : 
 climbed_path {files = files} {names = names} {entry = entry} {built = built} differ is most number path p at f =
     let s = spot_node is number (made_at path) at.is in
     climbs names built.nodes differ most number path p (ap (option_and_then (λ (w : Where). w)) s.path) f
+
+-- the same for a tree that is not built here
+pub names_shown : (files : List SourceFile) (entry : ℕ) (names : List (List ℕ)) (ns : List Node) (most number : ℕ) (path : List ℕ) (found : List Name) → NamesDiffer names
+    → tree_said ns ≡ map (spot_said files entry names) (nodes files entry) → slice_get (nodes files entry) number ≡ Some (made_at path)
+    → climbed names ns most number ≡ Some (reverse (map (λ n. n.0) found)) → found ≡ shown path
+names_shown files entry names ns most number path found differ told at f =
+    let s = said_at (node_paths ns) ns number (spot_said files entry names (made_at path))
+    (ap (λ (ss : List Said). slice_get ss number) told ∙ slice_get-map (spot_said files entry names) (nodes files entry) number ∙ ap (option_map (spot_said files entry names)) at) in
+    shown_back found path (climbs names ns differ most number path (reverse (map (λ (n : Name). n.0) found)) (ap (option_and_then (λ (w : Where). w)) s.path) f)

@@ -1,5 +1,11 @@
 //! The names from the root to an instance.
-ghost use Rattle.std.specs.Prelude.{◌≡◌, ◌++◌, ℕ, List, Some, length, map, reverse, IfOk};
+ghost use Rattle.std.specs.Prelude.{◌≡◌, ◌++◌, ℕ, List, Some, length, map, reverse, slice_get, IfOk};
+ghost use Rattle.ato_files.specs.declared.program.SourceFile.{SourceFile};
+ghost use Rattle.ato_files.specs.Programs.{NamesDiffer};
+ghost use Rattle.ato_instance_tree.specs.Order as order;
+ghost use Rattle.ato_instance_tree.specs.Order.{made_at};
+ghost use Rattle.ato_instance_tree.specs.TreeFaults as faults;
+ghost use Rattle.ato_instance_tree.specs.Trees.{tree_said, spot_said};
 ghost use Rattle.ato_elab.specs.Climbing.{above_at, climbed};
 
 use ato_base::{List, Name, NameTable, NoMemory};
@@ -79,4 +85,19 @@ pub(crate) fn shown(
 {
     let found = climbed(alloc, names, nodes, number)?;
     turned(alloc, found.as_slice())
+}
+
+/// The names from the root to an instance of a tree, by the number of its node. It takes as many steps as there are names.
+#[tactic(auto, using(crate::proofs::TellLemmas::names_shown))]
+pub fn names_to(
+    alloc: Global,
+    names: &NameTable,
+    nodes: &[Node],
+    number: u32,
+) -> Result<List<Name>, NoMemory>
+    ensures { IfOk result (λ found. (files : List SourceFile) (entry : ℕ) (path : List ℕ) → NamesDiffer names.now
+        → tree_said nodes.now ≡ map (spot_said files entry names.now) (order.nodes files entry)
+        → slice_get (order.nodes files entry) number ≡ Some (made_at path) → found ≡ faults.shown path) }
+{
+    shown(alloc, names, nodes, number)
 }

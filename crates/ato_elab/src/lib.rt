@@ -58,3 +58,4 @@ mod turning;
 mod ways;
 
 pub use elaborating::elaborate;
+pub use late_names::names_to;
