@@ -22,7 +22,7 @@ pub(crate) fn text_of(value: &Value) -> Option<Quoted>
 }
 
 /// The string that a statement assigns.
-fn string_of(stmt: &Stmt) -> Option<Quoted>
+pub fn string_of(stmt: &Stmt) -> Option<Quoted>
     ensures { result ≡ string_of stmt.now }
 {
     match stmt {

@@ -59,3 +59,5 @@ mod ways;
 
 pub use elaborating::elaborate;
 pub use late_names::names_to;
+pub use late_slots::string_of;
+pub use settling::descends;

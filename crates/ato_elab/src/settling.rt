@@ -26,7 +26,7 @@ pub(crate) fn info_at(blocks: &[BlockInfo], number: usize) -> Option<&BlockInfo>
 }
 
 /// Whether a type is another one or a descendant of it. It takes no memory.
-fn descends(program: &Program, block: u32, other: u32) -> bool
+pub fn descends(program: &Program, block: u32, other: u32) -> bool
     ensures { AreBlocks program.now.files program.now.blocks → result ≡ descends program.now.files block other }
 {
     match info_at(program.blocks.as_slice(), block as usize) {
