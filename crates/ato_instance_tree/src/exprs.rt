@@ -65,8 +65,8 @@ pub fn paths<'a>(expr: &'a Expr, into: &mut List<&'a Path>) -> Result<(), NoMemo
     }
 }
 
-/// So many bytes from the start of a place, or all of it.
-fn front_of(long: u32, at: Span) -> Span
+/// So many bytes from the start of a place, or all of it. It takes no memory.
+pub fn front_of(long: u32, at: Span) -> Span
     ensures { result ≡ front_of long at }
 {
     Span {
@@ -98,8 +98,8 @@ fn literal_front(literal: &Literal) -> Span
     }
 }
 
-/// The first token of a path: its first name.
-fn path_front(path: &Path) -> Span
+/// The first token of a path: its first name. It takes no memory.
+pub fn path_front(path: &Path) -> Span
     ensures { result ≡ steps_front path.now.at path.now.steps }
 {
     match path.steps.as_slice() {

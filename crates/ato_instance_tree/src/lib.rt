@@ -20,7 +20,7 @@ mod tree;
 mod type_members;
 mod type_stmts;
 
-pub use exprs::{first_token, is_literal, paths};
+pub use exprs::{first_token, front_of, is_literal, path_front, paths};
 pub use kinds::kind;
 pub use laws::{
     effective_is_last, first_fault_stands, limits_are_kept, members_agree, no_node_twice,
