@@ -6,7 +6,7 @@ use Rattle.std.proofs.lemmas.Bool.{eqb-true, leb-true}
 use Rattle.ato_base.specs.Joined.{Joined, same, along, against}
 use Rattle.ato_base.proofs.JoinedLaws.{joined_least}
 use Rattle.ato_base.proofs.ClassLaws.{cases, first, later, nowhere}
-use Rattle.ato_links.specs.NodeJoins.{IsPair, AreLeast}
+use Rattle.ato_nets.specs.ClassNumbers.{IsJoin, AreClassNumbers}
 
 pub and_parts : (a b : Bool) → (a && b) ≡ true → (a ≡ true) × (b ≡ true)
 and_parts true true e = (refl, refl)
@@ -58,33 +58,33 @@ are_numbers count joins of next =
     (length of == count) && (all_below count (leads joins of next count) && (all_below count (λ p. nat_le (slice_index of p) p) && list_all (λ j. slice_index of j.0 == slice_index of j.1) joins))
 
 module _ (joins : List (ℕ × ℕ)) (of next : List ℕ) where
-  pair_there : (p q : ℕ) → has_pair joins p q ≡ true → IsPair joins p q
+  pair_there : (p q : ℕ) → has_pair joins p q ≡ true → IsJoin joins p q
   pair_there p q e =
       let it = any_has (λ j. (j.0 == p) && (j.1 == q)) joins e in
       let both = and_parts (it.0.0 == p) (it.0.1 == q) it.2 in
       subst (λ a. Contains joins (a, q)) (eqb-true it.0.0 p both.0) (subst (λ b. Contains joins (it.0.0, b)) (eqb-true it.0.1 q both.1) it.1)
 
-  led : (steps p : ℕ) → leads joins of next steps p ≡ true → Joined (IsPair joins) p (slice_index of p)
-  led zero p e = subst (Joined (IsPair joins) p) (sym (eqb-true (slice_index of p) p e)) same
+  led : (steps p : ℕ) → leads joins of next steps p ≡ true → Joined (IsJoin joins) p (slice_index of p)
+  led zero p e = subst (Joined (IsJoin joins) p) (sym (eqb-true (slice_index of p) p e)) same
   led (suc steps) p e =
       let q = slice_index next p in
       elim (or_parts (slice_index of p == p) (is_near joins p q && ((slice_index of q == slice_index of p) && leads joins of next steps q)) e) [
-        | inl s ↦ subst (Joined (IsPair joins) p) (sym (eqb-true (slice_index of p) p s)) same
+        | inl s ↦ subst (Joined (IsJoin joins) p) (sym (eqb-true (slice_index of p) p s)) same
         | inr more ↦
             let a = and_parts (is_near joins p q) ((slice_index of q == slice_index of p) && leads joins of next steps q) more in
             let b = and_parts (slice_index of q == slice_index of p) (leads joins of next steps q) a.1 in
-            let rest : Joined (IsPair joins) q (slice_index of p) = subst (Joined (IsPair joins) q) (eqb-true (slice_index of q) (slice_index of p) b.0) (led steps q b.1) in
+            let rest : Joined (IsJoin joins) q (slice_index of p) = subst (Joined (IsJoin joins) q) (eqb-true (slice_index of q) (slice_index of p) b.0) (led steps q b.1) in
             elim (or_parts (has_pair joins p q) (has_pair joins q p) a.0) [ inl h ↦ along (pair_there p q h) rest | inr h ↦ against (pair_there q p h) rest ]
       ]
 
   -- Numbers that pass the test are the numbers of the classes.
-  pub numbers_are : (count : ℕ) → are_numbers count joins of next ≡ true → AreLeast count joins of
+  pub numbers_are : (count : ℕ) → are_numbers count joins of next ≡ true → AreClassNumbers count joins of
   numbers_are count e =
       let a = and_parts (length of == count) (all_below count (leads joins of next count) && (all_below count (λ p. nat_le (slice_index of p) p) && list_all (λ j. slice_index of j.0 == slice_index of j.1) joins)) e in
       let b = and_parts (all_below count (leads joins of next count)) (all_below count (λ p. nat_le (slice_index of p) p) && list_all (λ j. slice_index of j.0 == slice_index of j.1) joins) a.1 in
       let c = and_parts (all_below count (λ p. nat_le (slice_index of p) p)) (list_all (λ j. slice_index of j.0 == slice_index of j.1) joins) b.1 in
-      let kept : (p q : ℕ) → Joined (IsPair joins) p q → slice_index of p ≡ slice_index of q =
-      λ p q j. joined_least (IsPair joins) (λ x y. slice_index of x ≡ slice_index of y) (λ x. refl) (λ x y s. sym s) (λ x y z s t. s ∙ t)
+      let kept : (p q : ℕ) → Joined (IsJoin joins) p q → slice_index of p ≡ slice_index of q =
+      λ p q j. joined_least (IsJoin joins) (λ x y. slice_index of x ≡ slice_index of y) (λ x. refl) (λ x y s. sym s) (λ x y z s t. s ∙ t)
       (λ x y d. eqb-true (slice_index of x) (slice_index of y) (all_has (λ k. slice_index of k.0 == slice_index of k.1) joins c.1 (x, y) d)) j in
       record {
         size = eqb-true (length of) count a.0;

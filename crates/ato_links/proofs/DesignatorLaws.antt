@@ -1,16 +1,24 @@
--- No two parts have one designator.
-use Rattle.std.proofs.Common.{◌≡◌, ℕ, zero, suc, ◌+◌, ◌^◌, ◌%◌, ◌<◌, ◌≤◌, Bool, true, false, true≢false, List, [], ◌∷◌, ◌++◌, length, Some, refl, ap, sym, ◌∙◌, subst, arith, inl, inr}
-use Rattle.std.specs.Prelude.{◌&&◌, nat_le, nat_lt, cond, Contains, count_by, decimal, slice_get, if◌then◌else◌}
+-- No two parts have one designator: no prefix ends in a digit.
+use Rattle.std.proofs.Common.{◌≡◌, ℕ, zero, suc, ◌+◌, ◌^◌, ◌%◌, ◌<◌, ◌≤◌, Bool, true, false, true≢false, List, [], ◌∷◌, ◌++◌, length, map, Some, refl, ap, sym, ◌∙◌, subst, arith, inl, inr}
+use Rattle.std.specs.Prelude.{◌&&◌, nat_le, nat_lt, cond, Contains, filter_map, count_by, decimal, slice_get, if◌then◌else◌}
 use Rattle.std.specs.List.{list_all}
 use Rattle.std.specs.Str.{bytes_eq}
 use Rattle.std.proofs.lemmas.Bool.{and_parts, and_left, or_from, lt-leb, cases_order}
+use Rattle.std.proofs.lemmas.List.{length-map}
 use Rattle.std.proofs.lemmas.List.Recursion.{is_count_by}
 use Rattle.std.proofs.lemmas.Fmt.{decimal_by_steps, decimal_injective}
 use Rattle.std.proofs.lemmas.Option.{none-some, same_Some, slice_get_within}
 use Rattle.std.proofs.lemmas.Slice.Eq.{bytes_eq-Decides}
 use Rattle.ato_base.proofs.ClassLaws.{first, later}
+use Rattle.ato_instance_tree.specs.Trees.{tree_said, spot_said}
+use Rattle.ato_instance_tree.specs.Order.{Spot, leaf, made_at, nodes, instance_of, instances}
+use Rattle.ato_instance_tree.specs.TreeFaults.{most_in_tree}
 use Rattle.ato_instance_tree.specs.PathFaults.{is_letter, is_prefix}
-use Rattle.ato_links.specs.Parts.{designators_after, DesignatorsDiffer}
+use Rattle.ato_instance_tree.proofs.PushLaws.{said_long}
+use Rattle.ato_instance_tree.proofs.LimitLaws.{kept}
+use Rattle.ato_links.specs.Parts.{is_part, parts, prefix_of, designators_after, DesignatorsDiffer}
+use Rattle.ato_links.proofs.NetLaws.{map_had, filter_had, shorter}
+use Rattle.ato_links.proofs.PrefixLaws.{each_prefix}
 
 -- ---- letters before digits
 
@@ -35,7 +43,8 @@ heads a b xs ys e = (same_Some a b (ap (λ l. slice_get l 0) e), ap (λ l. rest 
   rest [] = []
   rest (z ∷ zs) = zs
 
-split : (p q ds es : List ℕ) → list_all is_letter p ≡ true → list_all is_letter q ≡ true → FirstIsNone ds → FirstIsNone es → p ++ ds ≡ q ++ es → (p ≡ q) × (ds ≡ es)
+split : (p q ds es : List ℕ) → list_all is_letter p ≡ true → list_all is_letter q ≡ true → FirstIsNone ds → FirstIsNone es → p ++ ds ≡ q ++ es
+    → (p ≡ q) × (ds ≡ es)
 split [] [] ds es a b f g e = (refl, e)
 split [] (y ∷ q) ds es a b f g e =
     let h = heads f.0 y f.1 (q ++ es) (sym f.2 ∙ e) in
@@ -80,7 +89,8 @@ data IsEntry (before ps : List (List ℕ)) (i : ℕ) (d : List ℕ) : Type 0 whe
 
 entry_at : (before ps : List (List ℕ)) (i : ℕ) (d : List ℕ) → slice_get (designators_after before ps) i ≡ Some d → IsEntry before ps i d
 entry_at before [] i d e = absurd (none-some d e)
-entry_at before (q ∷ ps) zero d e = entry q refl (sym (same_Some (q ++ decimal (count_by (bytes_eq q) before + 1)) d e) ∙ ap (λ n. q ++ decimal n) (omega arith))
+entry_at before (q ∷ ps) zero d e = entry q refl
+    (sym (same_Some (q ++ decimal (count_by (bytes_eq q) before + 1)) d e) ∙ ap (λ n. q ++ decimal n) (omega arith))
 entry_at before (q ∷ ps) (suc i) d e = deeper (entry_at (q ∷ before) ps i d e) where
   deeper : IsEntry (q ∷ before) ps i d → IsEntry before (q ∷ ps) (suc i) d
   deeper (entry p f g) = entry p f (g ∙ ap (λ n. p ++ decimal n) (omega (arith, count_more p q before)))
@@ -112,7 +122,8 @@ module _ (ps : List (List ℕ)) (small : length ps < 2 ^ 32) (good : (p : List �
   apart i j d l (entry p f g) (entry q h k) =
       let m = below p i f p in
       let n = below q j h q in
-      let it = split p q (decimal ((0 + times p ps i) + 1)) (decimal ((0 + times q ps j) + 1)) (letters_of p (good p (contains ps i p f))) (letters_of q (good q (contains ps j q h)))
+      let it = split p q (decimal ((0 + times p ps i) + 1)) (decimal ((0 + times q ps j) + 1)) (letters_of p (good p (contains ps i p f)))
+      (letters_of q (good q (contains ps j q h)))
       (decimal_first ((0 + times p ps i) + 1) m) (decimal_first ((0 + times q ps j) + 1) n) (sym g ∙ k) in
       let same = decimal_injective ((0 + times p ps i) + 1) ((0 + times q ps j) + 1) m n it.1 in
       let more = subst (λ x. times p ps i < times x ps j) it.0 (rises p ps i j l f) in
@@ -127,5 +138,28 @@ module _ (ps : List (List ℕ)) (small : length ps < 2 ^ 32) (good : (p : List �
     ]
   ]
 
+-- ---- projects
+
+instances_within : (ss : List Spot) → length (filter_map instance_of ss) ≤ length ss
+instances_within [] = omega arith
+instances_within (leaf path m ∷ ss) = omega (arith, instances_within ss)
+instances_within (made_at path ∷ ss) = omega (arith, instances_within ss)
+
+few : (n : ℕ) → n ≤ 262144 → n < 2 ^ 32
+few n l = omega (arith, l)
+
 pub designators_differ : DesignatorsDiffer
-designators_differ = differ
+designators_differ program name tree loaded is none =
+    let paths = parts program.files is.entry program.names in
+    let prefix = prefix_of program.files is.entry program.names in
+    let long : length (map prefix paths) ≡ length paths = length-map paths prefix in
+    let kept_parts = shorter (is_part program.files is.entry program.names) (instances program.files is.entry) in
+    let kept_instances = instances_within (nodes program.files is.entry) in
+    let told : length (tree_said tree.nodes) ≡ length (nodes program.files is.entry) =
+    ap length is.is.told ∙ length-map (nodes program.files is.entry) (spot_said program.files is.entry program.names) in
+    let said = said_long tree.nodes in
+    let limit : length tree.nodes ≤ 262144 = (kept most_in_tree program name tree loaded is).nodes in
+    differ (map prefix paths) (few (length (map prefix paths)) (omega arith))
+    (λ p m. let it = map_had prefix paths p m in ap is_prefix (sym it.2)
+    ∙ each_prefix most_in_tree program name tree is it.0 none
+    (filter_had (is_part program.files is.entry program.names) (instances program.files is.entry) it.0 it.1).0)

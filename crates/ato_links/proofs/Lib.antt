@@ -7,9 +7,14 @@ pub mod FaultOrder
 pub mod JoinNodes
 pub mod LinkRows
 pub mod LinkedLaws
+pub mod LoadedLaws
+pub mod NameLaws
 pub mod NetLaws
 pub mod NumberLaws
 pub mod PartRows
+pub mod PinLaws
 pub mod PlacedLaws
+pub mod PrefixLaws
 pub mod ShareLaws
+pub mod TableLaws
 pub mod WholeLaws

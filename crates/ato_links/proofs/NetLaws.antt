@@ -26,11 +26,11 @@ map_append : {X Y : Type 0} (f : X → Y) (xs ys : List X) → map f (xs ++ ys) 
 map_append f [] ys = refl
 map_append f (x ∷ xs) ys = ap (λ l. f x ∷ l) (map_append f xs ys)
 
-map_had : {X Y : Type 0} (f : X → Y) (xs : List X) (y : Y) → Contains (map f xs) y → (x : X) × Contains xs x × (f x ≡ y)
+pub map_had : {X Y : Type 0} (f : X → Y) (xs : List X) (y : Y) → Contains (map f xs) y → (x : X) × Contains xs x × (f x ≡ y)
 map_had f [] y m = absurd (nowhere y m)
 map_had f (a ∷ xs) y m = elim (cases (f a) y (map f xs) m) [ inl e ↦ (a, first a xs, sym e) | inr k ↦ let it = map_had f xs y k in (it.0, later a it.0 xs it.1, it.2) ]
 
-filter_had : {X : Type 0} (test : X → Bool) (xs : List X) (x : X) → Contains (filter test xs) x → Contains xs x × (test x ≡ true)
+pub filter_had : {X : Type 0} (test : X → Bool) (xs : List X) (x : X) → Contains (filter test xs) x → Contains xs x × (test x ≡ true)
 filter_had test [] x m = absurd (nowhere x m)
 filter_had test (y ∷ ys) x m = split (test y) refl m (filter_had test ys x) where
   split : (b : Bool) → test y ≡ b → Contains (cond b (y ∷ filter test ys) (filter test ys)) x → (Contains (filter test ys) x → Contains ys x × (test x ≡ true))
@@ -46,6 +46,13 @@ at_contains [] i x e = absurd (none-some x e)
 at_contains (y ∷ ys) zero x e = subst (Contains (y ∷ ys)) (same_Some y x e) (first y ys)
 at_contains (y ∷ ys) (suc i) x e = later y x ys (at_contains ys i x e)
 
+pub shorter : {X : Type 0} (test : X → Bool) (xs : List X) → length (filter test xs) ≤ length xs
+shorter test [] = omega arith
+shorter test (y ∷ ys) = by_test (test y) (shorter test ys) where
+  by_test : (b : Bool) → length (filter test ys) ≤ length ys → length (cond b (y ∷ filter test ys) (filter test ys)) ≤ length (y ∷ ys)
+  by_test true l = omega (arith, l)
+  by_test false l = omega (arith, l)
+
 -- ---- groups are classes
 
 module _ {X : Type 0} (same : X → X → Bool) where
@@ -57,14 +64,7 @@ module _ {X : Type 0} (same : X → X → Bool) where
     by_test true e rest = related e rest
     by_test false e rest = other (λ t. absurd (cc)) rest
 
-  shorter : (test : X → Bool) (xs : List X) → length (filter test xs) ≤ length xs
-  shorter test [] = omega arith
-  shorter test (y ∷ ys) = by_test (test y) (shorter test ys) where
-    by_test : (b : Bool) → length (filter test ys) ≤ length ys → length (cond b (y ∷ filter test ys) (filter test ys)) ≤ length (y ∷ ys)
-    by_test true l = omega (arith, l)
-    by_test false l = omega (arith, l)
-
-  groups_are : (most : ℕ) (xs : List X) → length xs ≤ most → Classes (λ a b. same a b ≡ true) xs (groups same most xs)
+  pub groups_are : (most : ℕ) (xs : List X) → length xs ≤ most → Classes (λ a b. same a b ≡ true) xs (groups same most xs)
   groups_are zero [] l = no_class
   groups_are zero (x ∷ xs) l = absurd (omega arith)
   groups_are (suc most) [] l = no_class
@@ -105,7 +105,7 @@ longer [] x n e = omega (arith, e)
 longer (y ∷ ys) x zero e = absurd (omega (arith, e))
 longer (y ∷ ys) x (suc n) e = ap suc (longer ys x n (omega (arith, e)))
 
-at_node : {X : Type 0} (of : Spot → List X) (n : ℕ) (front spots : List Spot) (a : ℕ × X) → length front ≡ n → Contains (numbered_by of n spots) a
+pub at_node : {X : Type 0} (of : Spot → List X) (n : ℕ) (front spots : List Spot) (a : ℕ × X) → length front ≡ n → Contains (numbered_by of n spots) a
     → (s : Spot) × (slice_get (front ++ spots) a.0 ≡ Some s) × Contains (of s) a.1
 at_node of n front [] a e m = absurd (nowhere a m)
 at_node of n front (s ∷ more) a e m = elim (Contains-append_cases (map (λ x. (n, x)) (of s)) (numbered_by of (suc n) more) a m) [

@@ -17,9 +17,10 @@ use Rattle.ato_files.specs.Lists.{Among, here, there}
 use Rattle.ato_instance_tree.specs.Order.{Spot, made_at, nodes}
 use Rattle.ato_instance_tree.specs.Laws.{SpotPlace, at_names, at_label, place_of}
 use Rattle.ato_instance_tree.proofs.SpotLaws.{no_node_twice}
+use Rattle.ato_nets.specs.ClassNumbers.{IsJoin, AreClassNumbers}
 use Rattle.ato_links.specs.Links.{Link, join, clash, Electrical, links}
 use Rattle.ato_links.specs.Joins.{IsDirect, AreJoinedNodes}
-use Rattle.ato_links.specs.NodeJoins.{same_place, number_at, both, link_numbers, node_joins, is_placed, are_placed, IsPair, AreLeast, LeastAreClasses}
+use Rattle.ato_links.specs.NodeJoins.{same_place, number_at, both, link_numbers, node_joins, is_placed, are_placed, LeastAreClasses}
 
 -- ---- places
 
@@ -92,7 +93,7 @@ module _ (spots : List Spot) where
   ]
 
 module _ (files : List SourceFile) (entry : ℕ) (library : Electrical) (of : List ℕ) (placed : are_placed files entry library ≡ true)
-    (are : AreLeast (length (nodes files entry)) (node_joins files entry library) of) where
+    (are : AreClassNumbers (length (nodes files entry)) (node_joins files entry library) of) where
   -- the node at its own place is found
   own_number : (i : ℕ) (s : Spot) → slice_get (nodes files entry) i ≡ Some s → number_of (nodes files entry) (place_of s) ≡ i
   own_number i s e =
@@ -113,17 +114,17 @@ module _ (files : List SourceFile) (entry : ℕ) (library : Electrical) (of : Li
     other = spot_of (nodes files entry) (slice_index of p);
     is_one = slice_get-get_or (nodes files entry) p (made_at []) l;
     is_other = slice_get-get_or (nodes files entry) (slice_index of p) (made_at []) (inside p l);
-    joined = joined_map (IsPair (node_joins files entry library)) (IsDirect files entry library) (λ i. place_of (spot_of (nodes files entry) i))
+    joined = joined_map (IsJoin (node_joins files entry library)) (IsDirect files entry library) (λ i. place_of (spot_of (nodes files entry) i))
         (λ x y m. (pair_had (nodes files entry) (links files entry library) x y m).0) (are.joined p l);
   }
 
   least : (p q : ℕ) → AreJoinedNodes files entry library p q → slice_index of p ≤ q
   least p q j =
-      let chain = joined_map (IsDirect files entry library) (IsPair (node_joins files entry library)) (number_of (nodes files entry))
+      let chain = joined_map (IsDirect files entry library) (IsJoin (node_joins files entry library)) (number_of (nodes files entry))
       (λ a b m. pair_there (nodes files entry) (links files entry library) a b placed m) j.joined in
       are.least p q (slice_get_within (nodes files entry) p j.one j.is_one) (slice_get_within (nodes files entry) q j.other j.is_other)
-      (subst (λ x. Joined (IsPair (node_joins files entry library)) x q) (own_number p j.one j.is_one)
-      (subst (λ y. Joined (IsPair (node_joins files entry library)) (number_of (nodes files entry) (place_of j.one)) y) (own_number q j.other j.is_other) chain))
+      (subst (λ x. Joined (IsJoin (node_joins files entry library)) x q) (own_number p j.one j.is_one)
+      (subst (λ y. Joined (IsJoin (node_joins files entry library)) (number_of (nodes files entry) (place_of j.one)) y) (own_number q j.other j.is_other) chain))
 
 pub least_are_classes : LeastAreClasses
 least_are_classes files entry library of placed are = record {

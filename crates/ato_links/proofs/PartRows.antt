@@ -10,11 +10,11 @@ use Rattle.ato_ast.specs.declared.stmts.Stmt.{Stmt}
 use Rattle.ato_ast.specs.declared.stmts.Stmt.TheVariants as stmt
 use Rattle.ato_files.specs.declared.program.SourceFile.{SourceFile}
 use Rattle.ato_files.proofs.Written.{span, nm, block, source}
-use Rattle.ato_instance_tree.proofs.Written.{make, assign, text, signal_of, signal_and_pin, connect}
+use Rattle.ato_instance_tree.proofs.Written.{pass, make, replace, assign, text, signal_of, signal_and_pin, connect}
 use Rattle.ato_links.specs.Parts.{parts, designators_after, part_rows, path_text}
 use Rattle.ato_links.specs.Joins.{AreClasses}
 use Rattle.ato_links.specs.NodeJoins.{node_joins}
-use Rattle.ato_links.specs.Nets.{AreNets}
+use Rattle.ato_links.specs.Nets.{comps_of, AreNets}
 use Rattle.ato_links.specs.ByNumbers.{nets_by}
 use Rattle.ato_links.proofs.Boards.{names, board, electrical, library, pin_of, pin_alone, path}
 use Rattle.ato_links.proofs.Colours.{numbers_are}
@@ -78,6 +78,32 @@ rows_with_strings = refl
 pub root_is_part : part_rows some_parts 2 words ≡ row_of (codes "U1") [] (codes "C") ∷ []
 unfolding digits
 root_is_part = refl
+
+-- Once parts are picked, the net list has for a slot the picked part, and for another part its type's name.
+abbrev picked : List PartRow
+picked = row_of (codes "U1") (codes "p") (codes "C")
+    ∷ record { designator = codes "U2"; path = codes "q"; kind_name = codes "A"; kind = codes "k"; part = codes "R"; «package» = codes "S"; footprint = codes "F"; price = [] }
+    ∷ row_of (codes "U3") (codes "c") (codes "D") ∷ []
+
+pub picked_comps : comps_of some_parts 7 words (parts some_parts 7 words) picked
+    ≡ record { designator = codes "U1"; value = codes "C"; footprint = []; path = codes "p" }
+    ∷ record { designator = codes "U2"; value = codes "R"; footprint = codes "F"; path = codes "q" }
+    ∷ record { designator = codes "U3"; value = codes "D"; footprint = []; path = codes "c" } ∷ []
+picked_comps = refl
+
+-- ---- types: `C` with a pin, and `A from C`; `c = new C`, `q = new A`, `p = new C` with `p -> A`
+
+abbrev derived : List SourceFile
+derived = with_texts (block Component (nm 5 10) None (pin_alone 0 ∷ [])
+    ∷ block Component (nm 3 12) (Some (nm 5 13)) (pass ∷ [])
+    ∷ block Module (nm 8 20) None (make (nm 24 21) (nm 5 22) ∷ make (nm 19 23) (nm 3 24) ∷ make (nm 20 25) (nm 5 26)
+    ∷ replace (nm 20 27 ∷ []) (nm 3 28) ∷ []) ∷ [])
+
+-- The pin of its ancestor makes an instance a part, whose name is that of its own type, as replaced.
+pub own_types : part_rows derived 4 words ≡ row_of (codes "U1") (codes "c") (codes "C") ∷ row_of (codes "U2") (codes "q") (codes "A")
+    ∷ row_of (codes "U3") (codes "p") (codes "A") ∷ []
+unfolding digits
+own_types = refl
 
 -- ---- paths
 

@@ -11,6 +11,8 @@ use Rattle.ato_files.specs.declared.program.SourceFile.{SourceFile}
 use Rattle.ato_links.specs.Links.{Electrical}
 use Rattle.ato_links.specs.Joins.{IsDirect}
 use Rattle.ato_links.specs.Nets.{Pin, pins, net_pin, IsNet, ArePins, AreNets, StandsIn, SharesExactly, PinsDiffer, NetsShare}
+use Rattle.ato_links.proofs.NetLaws.{map_had}
+use Rattle.ato_links.proofs.PinLaws.{no_pin_twice}
 
 map_has : {X Y : Type 0} (f : X → Y) (xs : List X) (x : X) → Contains xs x → Contains (map f xs) (f x)
 map_has f [] x m = absurd (nowhere x m)
@@ -18,10 +20,6 @@ map_has f (a ∷ xs) x m = elim (cases a x xs m) [
   | inl e ↦ subst (λ y. Contains (map f (a ∷ xs)) (f y)) (sym e) (first (f a) (map f xs))
   | inr k ↦ later (f a) (f x) (map f xs) (map_has f xs x k)
 ]
-
-map_had : {X Y : Type 0} (f : X → Y) (xs : List X) (y : Y) → Contains (map f xs) y → (x : X) × Contains xs x × (f x ≡ y)
-map_had f [] y m = absurd (nowhere y m)
-map_had f (a ∷ xs) y m = elim (cases (f a) y (map f xs) m) [ inl e ↦ (a, first a xs, sym e) | inr k ↦ let it = map_had f xs y k in (it.0, later a it.0 xs it.1, it.2) ]
 
 zip_back : {A B : Type 0} (R : A → B → Type 0) (xs : List A) (ys : List B) → AllZip R xs ys → (i : ℕ) (y : B) → slice_get ys i ≡ Some y
     → (x : A) × (slice_get xs i ≡ Some x) × R x y
@@ -71,7 +69,7 @@ module _ (files : List SourceFile) (entry : ℕ) (names : List (List ℕ)) (libr
   chain : (p q r : Pin) → ArePins files entry library p q → ArePins files entry library q r → ArePins files entry library p r
   chain p q r j k = joined_trans (IsDirect files entry library) j k
 
-  share : SharesExactly files entry names library nets
+  pub share : SharesExactly files entry names library nets
   share = record {
     joined = λ p q number m n a b.
         let one = in_class p number m a in
@@ -91,4 +89,4 @@ module _ (files : List SourceFile) (entry : ℕ) (names : List (List ℕ)) (libr
   }
 
 pub nets_share : NetsShare
-nets_share = share
+nets_share program entry library nets loaded are = share program.files entry program.names library nets (no_pin_twice program entry loaded) are

@@ -1,7 +1,9 @@
 -- What the connections of a project give: the classes of its nodes, or the first fault of paths and links.
-use Rattle.std.specs.Prelude.{◌≡◌, ℕ, List, Option, Some, None}
+use Rattle.std.specs.Prelude.{◌≡◌, ℕ, List, Option, Some, None, ⊤}
 use Rattle.std.specs.Option.{option_map}
 use Rattle.ato_base.specs.declared.faults.Fault.{Fault}
+use Rattle.ato_base.specs.declared.faults.Refusal.{Refusal}
+use Rattle.ato_base.specs.declared.faults.Refusal.TheVariants as refusal
 use Rattle.ato_files.specs.declared.program.Program.{Program}
 use Rattle.ato_instance_tree.specs.declared.tree.Tree.{Tree}
 use Rattle.ato_instance_tree.specs.TreeFaults.{Limits}
@@ -24,6 +26,17 @@ fault_stands program entry = option_map (λ f. f.1) (connect_fault program.files
 pub record IsLinked (program : Program) (entry : ℕ) (joined : Classes) : Type 0 where
   pub sound : fault_stands program entry ≡ None
   pub classes : AreClasses program.files entry (library_of program) joined.of
+
+-- A refusal tells the fault of paths and links that stands, or that memory ran out.
+abbrev pub IsUnlinked : Program → ℕ → Refusal → Type 0
+IsUnlinked program entry (refusal.Fault f) = fault_stands program entry ≡ Some f
+IsUnlinked program entry refusal.NoMemory = ⊤
+
+-- The tree is that of some entry block of the program.
+pub record IsTreeOf (program : Program) (tree : Tree) : Type 0 where
+  pub most : Limits
+  pub name : List ℕ
+  pub is : IsElaborated most program name tree
 
 -- The fault that stands is the first fault of links in an occurrence before that of the tree's first fault of paths, else that one.
 abbrev pub FaultByTree : Type 0

@@ -8,10 +8,12 @@ use Rattle.ato_base.specs.declared.nets.Net.{Net}
 use Rattle.ato_base.specs.declared.nets.NetList.{NetList}
 use Rattle.ato_base.specs.declared.nets.NetPin.{NetPin}
 use Rattle.ato_base.specs.declared.nets.PartRow.{PartRow}
+use Rattle.ato_files.specs.declared.program.Program.{Program}
 use Rattle.ato_files.specs.declared.program.SourceFile.{SourceFile}
 use Rattle.ato_files.specs.Members.{signal, instance, param}
 use Rattle.ato_instance_tree.specs.Members.{pin, named}
 use Rattle.ato_instance_tree.specs.Order.{Spot, leaf, made_at, nodes}
+use Rattle.ato_instance_tree.specs.Elaborated.{IsLoaded}
 use Rattle.ato_instance_tree.specs.Laws.{SpotPlace, at_names, at_label}
 use Rattle.ato_links.specs.Links.{Electrical}
 use Rattle.ato_links.specs.Joins.{AreJoined}
@@ -68,7 +70,7 @@ pub data IsNetName (files : List SourceFile) (entry : ℕ) (names : List (List �
 
 -- ---- nets
 
--- a pin in the net list, by the number of its component among the parts
+-- a pin in the net list, by the number of its component among the parts; in a loaded project it is one of them (`PinsStandInParts`)
 abbrev pub net_pin : List SourceFile → ℕ → List (List ℕ) → Pin → NetPin
 net_pin files entry names p = record { comp = position_or_len (bytes_eq p.path) (parts files entry names); label = p.label }
 
@@ -123,6 +125,16 @@ abbrev pub PinsDiffer : List SourceFile → ℕ → List (List ℕ) → Type 0
 PinsDiffer files entry names = (p q : Pin) → Contains (pins files entry) p → Contains (pins files entry) q
     → net_pin files entry names p ≡ net_pin files entry names q → p ≡ q
 
+-- Each pin of a loaded project stands in a part: the number of its component is that of the part at its path.
+abbrev pub PinsStandInParts : Type 0
+PinsStandInParts = (program : Program) (entry : ℕ) (p : Pin) → IsLoaded program → Contains (pins program.files entry) p
+    → slice_get (parts program.files entry program.names) (net_pin program.files entry program.names p).comp ≡ Some p.path
+
+-- No two pins of a loaded project have one component and one label.
+abbrev pub NoPinTwice : Type 0
+NoPinTwice = (program : Program) (entry : ℕ) → IsLoaded program → PinsDiffer program.files entry program.names
+
+-- Two pins of a loaded project share a net exactly where they are joined, and each pin stands in exactly one net.
 abbrev pub NetsShare : Type 0
-NetsShare = (files : List SourceFile) (entry : ℕ) (names : List (List ℕ)) (library : Electrical) (nets : List Net) → PinsDiffer files entry names
-    → AreNets files entry names library nets → SharesExactly files entry names library nets
+NetsShare = (program : Program) (entry : ℕ) (library : Electrical) (nets : List Net) → IsLoaded program
+    → AreNets program.files entry program.names library nets → SharesExactly program.files entry program.names library nets

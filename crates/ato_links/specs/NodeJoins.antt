@@ -1,13 +1,13 @@
 -- The joins of a tree as pairs of numbers of nodes.
-use Rattle.std.specs.Prelude.{◌≡◌, ℕ, ◌<◌, ◌≤◌, Bool, true, false, ◌&&◌, List, [], length, Contains, Option, position, is_some}
-use Rattle.std.specs.List.{flat_map, list_all, slice_index}
+use Rattle.std.specs.Prelude.{◌≡◌, ℕ, Bool, true, false, ◌&&◌, List, [], length, Option, position, is_some}
+use Rattle.std.specs.List.{flat_map, list_all}
 use Rattle.std.specs.Option.{option_and_then, option_map}
 use Rattle.std.specs.Str.{bytes_eq}
 use Rattle.std.specs.Prelude.{option_to_list}
-use Rattle.ato_base.specs.Joined.{Joined}
 use Rattle.ato_files.specs.declared.program.SourceFile.{SourceFile}
 use Rattle.ato_instance_tree.specs.Order.{Spot, nodes}
 use Rattle.ato_instance_tree.specs.Laws.{SpotPlace, at_names, at_label, place_of}
+use Rattle.ato_nets.specs.ClassNumbers.{AreClassNumbers}
 use Rattle.ato_links.specs.Links.{Link, join, clash, Electrical, links}
 use Rattle.ato_links.specs.Joins.{AreClasses}
 
@@ -39,17 +39,7 @@ is_placed spots clash = true
 abbrev pub are_placed : List SourceFile → ℕ → Electrical → Bool
 are_placed files entry library = list_all (is_placed (nodes files entry)) (links files entry library)
 
--- The pair of numbers is one of these joins, in this direction.
-abbrev pub IsPair : List (ℕ × ℕ) → ℕ → ℕ → Type 0
-IsPair joins p q = Contains joins (p, q)
-
--- Each of so many numbers has the least number that is joined with it by these joins.
-pub record AreLeast (count : ℕ) (joins : List (ℕ × ℕ)) (of : List ℕ) : Type 0 where
-  pub size : length of ≡ count
-  pub joined : (p : ℕ) → p < count → Joined (IsPair joins) p (slice_index of p)
-  pub least : (p q : ℕ) → p < count → q < count → Joined (IsPair joins) p q → slice_index of p ≤ q
-
 -- The least numbers by the joins of a project are those of its classes.
 abbrev pub LeastAreClasses : Type 0
 LeastAreClasses = (files : List SourceFile) (entry : ℕ) (library : Electrical) (of : List ℕ) → are_placed files entry library ≡ true
-    → AreLeast (length (nodes files entry)) (node_joins files entry library) of → AreClasses files entry library of
+    → AreClassNumbers (length (nodes files entry)) (node_joins files entry library) of → AreClasses files entry library of

@@ -3,9 +3,9 @@ ghost use Rattle.ato_links.specs.ByNumbers.{NetsByNumbers};
 ghost use Rattle.ato_links.specs.Joins.{OneClasses, SameNumberIsJoined};
 ghost use Rattle.ato_links.specs.LinkFaults.{FirstOfBoth};
 ghost use Rattle.ato_links.specs.Linked.{FaultByTree, OneLinkFault};
-ghost use Rattle.ato_links.specs.Nets.{NetsShare};
+ghost use Rattle.ato_links.specs.Nets.{NetsShare, NoPinTwice, PinsStandInParts};
 ghost use Rattle.ato_links.specs.NodeJoins.{LeastAreClasses};
-ghost use Rattle.ato_links.specs.Parts.{DesignatorsDiffer};
+ghost use Rattle.ato_links.specs.Parts.{BlocksHaveNames, DesignatorsDiffer, EachPrefixIsOne, NamesAreInTable, PartsHaveTypes};
 ghost use Rattle.ato_links.specs.Whole.{JoinsAreNodes, LinksArePlaced, LinksAreWhole};
 
 /// The first fault of paths and links is the earlier of the first ones of both.
@@ -28,7 +28,17 @@ pub fn least_are_classes()
     ensures { LeastAreClasses }
 {}
 
-/// Two pins share a net exactly where they are joined, and each pin stands in exactly one net.
+/// Each pin of a loaded project stands in a part.
+pub fn pins_stand_in_parts()
+    ensures { PinsStandInParts }
+{}
+
+/// No two pins of a loaded project have one component and one label.
+pub fn no_pin_twice()
+    ensures { NoPinTwice }
+{}
+
+/// In a loaded project two pins share a net exactly where they are joined, and each pin stands in exactly one net.
 pub fn nets_share()
     ensures { NetsShare }
 {}
@@ -38,7 +48,27 @@ pub fn nets_by_numbers()
     ensures { NetsByNumbers }
 {}
 
-/// Where each prefix is one, no two parts have one designator.
+/// The name of each block of a loaded project is in the table.
+pub fn blocks_have_names()
+    ensures { BlocksHaveNames }
+{}
+
+/// Each part of a loaded project has a type with a name.
+pub fn parts_have_types()
+    ensures { PartsHaveTypes }
+{}
+
+/// Each name in the path of a node of a tree is in the table.
+pub fn names_are_in_table()
+    ensures { NamesAreInTable }
+{}
+
+/// Where no fault of paths stands, the prefix of each instance of a tree is one.
+pub fn each_prefix_is_one()
+    ensures { EachPrefixIsOne }
+{}
+
+/// Where no fault of paths stands, no two parts of a tree have one designator.
 pub fn designators_differ()
     ensures { DesignatorsDiffer }
 {}

@@ -10,7 +10,8 @@ mod laws;
 
 pub use classes::Classes;
 pub use laws::{
-    designators_differ, fault_by_tree, first_of_both, joins_are_nodes, least_are_classes,
-    links_are_placed, links_are_whole, nets_by_numbers, nets_share, one_classes, one_link_fault,
-    same_number_is_joined,
+    blocks_have_names, designators_differ, each_prefix_is_one, fault_by_tree, first_of_both,
+    joins_are_nodes, least_are_classes, links_are_placed, links_are_whole, names_are_in_table,
+    nets_by_numbers, nets_share, no_pin_twice, one_classes, one_link_fault, parts_have_types,
+    pins_stand_in_parts, same_number_is_joined,
 };
