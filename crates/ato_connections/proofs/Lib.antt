@@ -1,0 +1,13 @@
+pub mod ChildLaws
+pub mod EndSides
+pub mod EntryLinks
+pub mod JoiningLaws
+pub mod LinkingLaws
+pub mod MemberLemmas
+pub mod MemberSides
+pub mod OutcomeLaws
+pub mod OwnBlockLaws
+pub mod PairLaws
+pub mod PairSets
+pub mod TakenLists
+pub mod TreeOutcome

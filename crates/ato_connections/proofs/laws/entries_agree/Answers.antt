@@ -1,0 +1,5 @@
+use Rattle.ato_connections.proofs.EntryLinks as laws
+use Rattle.ato_connections.proofs.laws.entries_agree.Goals as goal
+
+pub returns : goal.returns
+returns c = laws.entries

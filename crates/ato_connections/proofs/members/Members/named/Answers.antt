@@ -1,0 +1,11 @@
+use Rattle.std.proofs.Common.{◌∙◌}
+use Rattle.ato_connections.specs.Members.{held_name}
+use Rattle.ato_connections.proofs.members.Members.named.Goals as goal
+
+pub returns-in-Some : goal.returns-in-Some
+unfolding held_name
+returns-in-Some c = λ ns are. c.in-Some.ensures.value ∙ are.named c.args.instance c.args.text.now
+
+pub returns-in-None : goal.returns-in-None
+unfolding held_name
+returns-in-None c = λ ns are. c.in-None.ensures.value ∙ are.named c.args.instance c.args.text.now
