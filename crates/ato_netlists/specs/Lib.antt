@@ -1,0 +1,10 @@
+pub mod Boards
+pub mod Comps
+pub mod Counted
+pub mod Entries
+pub mod Known
+pub mod Naming
+pub mod Parts
+pub mod Pinned
+pub mod Pins
+pub mod Signals
